@@ -1,0 +1,4 @@
+-- Laws of sums, counts, searches and lists below a number.
+pub mod Sums
+pub mod Tests
+pub mod Lists

@@ -1,0 +1,58 @@
+-- Laws of sumBelow and countBelow. In order: one more summand at the end; equal summands; zeros; sums of sums; multiples; bounds.
+-- Not here: tests and searches (Tests), lists (Lists).  Assumes nothing.
+use mathlib.Core.Path.{_≡_, refl, sym, _∙_, ap}
+use mathlib.Core.Bool.{Bool, true, false}
+use Prim.Native.Nat.{ℕ, zero, suc, _+_, _*_, _≤_, _<_, zero-le, suc-le-suc}
+use native.Mathlib.Nat.{add-zero, zero-add, add-assoc, mul-add, mul-zero, add-le-add, le-refl, suc-mul}
+use native.Mathlib.Numerals.{add-one}
+use native.Mathlib.Omega.{arith}
+use Rattle.range.specs.Below.{sumBelow, countBelow, one?}
+
+pub sumBelow-suc : (n : ℕ) (f : ℕ → ℕ) → sumBelow (suc n) f ≡ sumBelow n f + f n
+unfolding sumBelow
+sumBelow-suc zero f = omega arith
+sumBelow-suc (suc n) f = omega (arith, sumBelow-suc n (λ i. f (suc i)))
+
+pub sumBelow-cong : (n : ℕ) (f g : ℕ → ℕ) → ((i : ℕ) → i < n → f i ≡ g i) → sumBelow n f ≡ sumBelow n g
+unfolding sumBelow
+sumBelow-cong zero f g e = refl
+sumBelow-cong (suc n) f g e =
+    omega (arith, e zero (suc-le-suc zero-le), sumBelow-cong n (λ i. f (suc i)) (λ i. g (suc i)) (λ i h. e (suc i) (suc-le-suc h)))
+
+pub sumBelow-zero : (n : ℕ) (f : ℕ → ℕ) → ((i : ℕ) → i < n → f i ≡ 0) → sumBelow n f ≡ 0
+unfolding sumBelow
+sumBelow-zero zero f e = refl
+sumBelow-zero (suc n) f e = omega (arith, e zero (suc-le-suc zero-le), sumBelow-zero n (λ i. f (suc i)) (λ i h. e (suc i) (suc-le-suc h)))
+
+pub sumBelow-add : (n : ℕ) (f g : ℕ → ℕ) → sumBelow n (λ i. f i + g i) ≡ sumBelow n f + sumBelow n g
+unfolding sumBelow
+sumBelow-add zero f g = refl
+sumBelow-add (suc n) f g = omega (arith, sumBelow-add n (λ i. f (suc i)) (λ i. g (suc i)))
+
+pub sumBelow-mul : (n a : ℕ) (f : ℕ → ℕ) → sumBelow n (λ i. a * f i) ≡ a * sumBelow n f
+unfolding sumBelow
+sumBelow-mul zero a f = sym (mul-zero a)
+sumBelow-mul (suc n) a f = ap (λ (s : ℕ). a * f zero + s) (sumBelow-mul n a (λ i. f (suc i))) ∙ sym (mul-add a (f zero) (sumBelow n (λ i. f (suc i))))
+
+-- a bound on each summand bounds the sum
+pub sumBelow-le : (n b : ℕ) (f : ℕ → ℕ) → ((i : ℕ) → i < n → f i ≤ b) → sumBelow n f ≤ n * b
+unfolding sumBelow
+sumBelow-le zero b f h = zero-le
+sumBelow-le (suc n) b f h =
+    omega (arith, h zero (suc-le-suc zero-le), sumBelow-le n b (λ i. f (suc i)) (λ i l. h (suc i) (suc-le-suc l)), suc-mul n b)
+
+pub countBelow-suc : (n : ℕ) (f : ℕ → Bool) → countBelow (suc n) f ≡ countBelow n f + one? (f n)
+unfolding countBelow
+countBelow-suc n f = sumBelow-suc n (λ i. one? (f i))
+
+pub countBelow-cong : (n : ℕ) (f g : ℕ → Bool) → ((i : ℕ) → i < n → f i ≡ g i) → countBelow n f ≡ countBelow n g
+unfolding countBelow
+countBelow-cong n f g e = sumBelow-cong n (λ i. one? (f i)) (λ i. one? (g i)) (λ i h. ap one? (e i h))
+
+one?-le : (b : Bool) → one? b ≤ 1
+one?-le true = le-refl 1
+one?-le false = zero-le
+
+pub countBelow-le : (n : ℕ) (f : ℕ → Bool) → countBelow n f ≤ n
+unfolding countBelow
+countBelow-le n f = omega (arith, sumBelow-le n 1 (λ i. one? (f i)) (λ i _. one?-le (f i)))

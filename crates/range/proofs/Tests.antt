@@ -1,0 +1,97 @@
+-- Laws of allBelow and firstBelow. In order: all, from each place, at each place, one more, refuted; the first, found, not found, and back.
+-- Not here: sums and counts (Sums), lists (Lists).  Assumes nothing.
+use mathlib.Core.Path.{_≡_, refl, sym, _∙_, ap, subst}
+use mathlib.Core.Bool.{Bool, true, false, _&&_, false≢true, and-true}
+use mathlib.Core.Option.{Option, none, some}
+use Prim.Native.Nat.{ℕ, zero, suc, _<_, zero-le, suc-le-suc}
+use native.Mathlib.Nat.{not-suc-le-zero, le-of-suc-le-suc}
+use Rattle.range.specs.Below.{allBelow, firstBelow, zeroOr}
+
+-- both sides of a conjunction
+pub and-left : (a b : Bool) → (a && b) ≡ true → a ≡ true
+and-left true b e = refl
+and-left false b e = e
+
+pub and-right : (a b : Bool) → (a && b) ≡ true → b ≡ true
+and-right true b e = e
+and-right false b e = absurd (false≢true e)
+
+pub and-of : (a b : Bool) → a ≡ true → b ≡ true → (a && b) ≡ true
+and-of a b p q = rw (p, q)
+
+pub allBelow-of : (n : ℕ) (f : ℕ → Bool) → ((i : ℕ) → i < n → f i ≡ true) → allBelow n f ≡ true
+unfolding allBelow
+allBelow-of zero f e = refl
+allBelow-of (suc n) f e =
+    and-of (f zero) (allBelow n (λ i. f (suc i))) (e zero (suc-le-suc zero-le))
+    (allBelow-of n (λ i. f (suc i)) (λ i h. e (suc i) (suc-le-suc h)))
+
+pub allBelow-at : (n : ℕ) (f : ℕ → Bool) → allBelow n f ≡ true → (i : ℕ) → i < n → f i ≡ true
+unfolding allBelow
+allBelow-at zero f e i h = absurd (not-suc-le-zero h)
+allBelow-at (suc n) f e zero h = and-left (f zero) (allBelow n (λ k. f (suc k))) e
+allBelow-at (suc n) f e (suc i) h =
+    allBelow-at n (λ k. f (suc k)) (and-right (f zero) (allBelow n (λ k. f (suc k))) e) i (le-of-suc-le-suc h)
+
+and-assoc′ : (a b c : Bool) → (a && (b && c)) ≡ ((a && b) && c)
+and-assoc′ true b c = refl
+and-assoc′ false b c = refl
+
+pub allBelow-suc : (n : ℕ) (f : ℕ → Bool) → allBelow (suc n) f ≡ (allBelow n f && f n)
+unfolding allBelow
+allBelow-suc zero f = and-true (f zero)
+allBelow-suc (suc n) f =
+    ap (λ (b : Bool). f zero && b) (allBelow-suc n (λ i. f (suc i)))
+    ∙ and-assoc′ (f zero) (allBelow n (λ i. f (suc i))) (f (suc n))
+
+pub allBelow-cong : (n : ℕ) (f g : ℕ → Bool) → ((i : ℕ) → i < n → f i ≡ g i) → allBelow n f ≡ allBelow n g
+unfolding allBelow
+allBelow-cong zero f g e = refl
+allBelow-cong (suc n) f g e =
+    rw (e zero (suc-le-suc zero-le), allBelow-cong n (λ i. f (suc i)) (λ i. g (suc i)) (λ i h. e (suc i) (suc-le-suc h)))
+
+is-false : (b : Bool) → (b ≡ true → ⊥) → b ≡ false
+is-false true h = absurd (h refl)
+is-false false h = refl
+
+pub allBelow-not : (n : ℕ) (f : ℕ → Bool) (i : ℕ) → i < n → f i ≡ false → allBelow n f ≡ false
+allBelow-not n f i h e = is-false (allBelow n f) (λ a. false≢true (sym e ∙ allBelow-at n f a i h))
+
+-- the first that passes: it does, and none before it
+pub firstBelow-some : (n : ℕ) (f : ℕ → Bool) (i : ℕ) → i < n → f i ≡ true → ((j : ℕ) → j < i → f j ≡ false) →
+    firstBelow n f ≡ some i
+unfolding firstBelow
+firstBelow-some zero f i h e b = absurd (not-suc-le-zero h)
+firstBelow-some (suc n) f zero h e b = rw e
+firstBelow-some (suc n) f (suc i) h e b =
+    rw (b zero (suc-le-suc zero-le),
+      firstBelow-some n (λ k. f (suc k)) i (le-of-suc-le-suc h) e (λ j l. b (suc j) (suc-le-suc l)))
+
+pub firstBelow-none : (n : ℕ) (f : ℕ → Bool) → ((i : ℕ) → i < n → f i ≡ false) → firstBelow n f ≡ none
+unfolding firstBelow
+firstBelow-none zero f e = refl
+firstBelow-none (suc n) f e =
+    rw (e zero (suc-le-suc zero-le), firstBelow-none n (λ k. f (suc k)) (λ i h. e (suc i) (suc-le-suc h)))
+
+-- what a search tells, whichever way it ends
+pub data Found (n : ℕ) (f : ℕ → Bool) : Option ℕ → Type 0 where
+  at : (i : ℕ) → i < n → f i ≡ true → ((j : ℕ) → j < i → f j ≡ false) → Found n f (some i)
+  nowhere : ((i : ℕ) → i < n → f i ≡ false) → Found n f none
+
+found-step : (n : ℕ) (f : ℕ → Bool) (b : Bool) (o : Option ℕ) → f zero ≡ b → Found n (λ i. f (suc i)) o → Found (suc n) f (zeroOr b o)
+found-step n f true o e r = at zero (suc-le-suc zero-le) e (λ j l. absurd (not-suc-le-zero l))
+found-step n f false none e (nowhere a) = nowhere (λ i. split i)
+  where
+    split : (i : ℕ) → i < suc n → f i ≡ false
+    split zero h = e
+    split (suc i) h = a i (le-of-suc-le-suc h)
+found-step n f false (some i) e (at k h p b) = at (suc k) (suc-le-suc h) p (λ j. before j)
+  where
+    before : (j : ℕ) → j < suc k → f j ≡ false
+    before zero l = e
+    before (suc j) l = b j (le-of-suc-le-suc l)
+
+pub found : (n : ℕ) (f : ℕ → Bool) → Found n f (firstBelow n f)
+unfolding firstBelow
+found zero f = nowhere (λ i h. absurd (not-suc-le-zero h))
+found (suc n) f = found-step n f (f zero) (firstBelow n (λ i. f (suc i))) refl (found n (λ i. f (suc i)))

@@ -1,0 +1,41 @@
+-- What is said of all numbers below n, each by counting up from 0.
+-- Defines:  sumBelow n f      f 0 + .. + f (n - 1)
+--           countBelow n f    how many i below n pass the test f
+--           allBelow n f      whether every i below n passes f
+--           firstBelow n f    the first i below n that passes f, if there is one
+--           listBelow n f     f 0, .., f (n - 1)
+-- Laws: proofs/Sums.antt, Tests.antt, Lists.antt.  Assumes nothing: these are definitions.
+use mathlib.Core.Bool.{Bool, true, false, _&&_}
+use mathlib.Core.List.{List, [], _∷_}
+use mathlib.Core.Option.{Option, none, some}
+use Prim.Native.Nat.{ℕ, zero, suc, _+_}
+
+unfoldable pub sumBelow : ℕ → (ℕ → ℕ) → ℕ
+sumBelow zero f = zero
+sumBelow (suc n) f = f zero + sumBelow n (λ i. f (suc i))
+
+-- 1 for a test that is passed
+abbrev pub one? : Bool → ℕ
+one? true = 1
+one? false = 0
+
+unfoldable pub countBelow : ℕ → (ℕ → Bool) → ℕ
+countBelow n f = sumBelow n (λ i. one? (f i))
+
+unfoldable pub allBelow : ℕ → (ℕ → Bool) → Bool
+allBelow zero f = true
+allBelow (suc n) f = f zero && allBelow n (λ i. f (suc i))
+
+-- 0 where it passes, else the next after what was found further on
+abbrev pub zeroOr : Bool → Option ℕ → Option ℕ
+zeroOr true o = some zero
+zeroOr false none = none
+zeroOr false (some i) = some (suc i)
+
+unfoldable pub firstBelow : ℕ → (ℕ → Bool) → Option ℕ
+firstBelow zero f = none
+firstBelow (suc n) f = zeroOr (f zero) (firstBelow n (λ i. f (suc i)))
+
+unfoldable pub listBelow : {A : Type 0} → ℕ → (ℕ → A) → List A
+listBelow zero f = []
+listBelow (suc n) f = f zero ∷ listBelow n (λ i. f (suc i))

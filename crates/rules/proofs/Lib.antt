@@ -1,0 +1,2 @@
+-- Laws of Best, and the starred cases of 01 as one list with one claim. The other laws of the rules: crates paths and words.
+pub mod BestLaws

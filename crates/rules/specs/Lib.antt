@@ -1,0 +1,12 @@
+-- Document 01 as definitions, a file for each subject, in the document's order.
+pub mod Shape
+pub mod Place
+pub mod Path
+pub mod Label
+pub mod Word
+pub mod Pair
+pub mod Distance
+pub mod Soft
+pub mod Best
+pub mod Spectrum
+pub mod Refusal

@@ -1,0 +1,28 @@
+-- The pair check: 01 "The partner and the pair check".
+-- Words are taken as functions of the place.
+-- Defines:  minus q a b            a - b modulo q, for a and b below q
+--           phaseCount h n a u k   how many places i with i + u < n have symbol i minus symbol i + u equal to k
+--           pairCount              the same, over both words together
+--           golayPair h m a b      whether, for each shift u from 1 to N - 1 and each phase k,
+--                                  the count for k equals the count for k + 2^(h-1)
+-- Assumes nothing: these are definitions.
+use mathlib.Core.Bool.{Bool}
+use Prim.Native.Nat.{ℕ, suc, _+_, _-_, _%_}
+use lib.Dec.{eqb}
+use Rattle.range.specs.Below.{countBelow, allBelow}
+use Rattle.rules.specs.Shape.{phases, half, carriers}
+
+unfoldable pub minus : ℕ → ℕ → ℕ → ℕ
+minus q a b = (a + (q - b)) % q
+
+unfoldable pub phaseCount : ℕ → ℕ → (ℕ → ℕ) → ℕ → ℕ → ℕ
+phaseCount h n a u k = countBelow (n - u) (λ i. eqb (minus (phases h) (a i) (a (i + u))) (k % phases h))
+
+unfoldable pub pairCount : ℕ → ℕ → (ℕ → ℕ) → (ℕ → ℕ) → ℕ → ℕ → ℕ
+pairCount h n a b u k = phaseCount h n a u k + phaseCount h n b u k
+
+unfoldable pub golayPair : ℕ → ℕ → (ℕ → ℕ) → (ℕ → ℕ) → Bool
+golayPair h m a b =
+    allBelow (carriers m - 1) λ u.
+    allBelow (phases h) λ k.
+    eqb (pairCount h (carriers m) a b (suc u) k) (pairCount h (carriers m) a b (suc u) (k + half h))

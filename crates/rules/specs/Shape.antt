@@ -1,0 +1,48 @@
+-- The shape of a word: 01 "What a logger may send".
+-- Defines:  greatestH, greatestM     the ends of the ranges of h and m; they stand here alone
+--           pathBits m               w, the bits of a path number; 01's table stands here alone
+--           inH h, inM m, inShape    whether h is in 1..greatestH, m in 2..greatestM, both
+--           phases h, half h         2^h and 2^(h-1)
+--           carriers m               N = 2^m
+--           pathsInUse m             2^w
+--           messageBits h m          w + h (m + 1)
+-- Assumes nothing: these are definitions.
+use mathlib.Core.Bool.{Bool, _&&_}
+use mathlib.Core.List.{List, [], _∷_}
+use Prim.Native.Nat.{ℕ, _+_, _-_, _*_, _^_}
+use lib.Dec.{leb}
+use lib.ListN.{getD}
+
+abbrev pub greatestH : ℕ
+greatestH = 3
+
+abbrev pub greatestM : ℕ
+greatestM = 5
+
+-- w for m = 2, 3, ..
+unfoldable pub pathBits : ℕ → ℕ
+pathBits m = getD (0 ∷ 1 ∷ 3 ∷ 5 ∷ []) (m - 2) 0
+
+abbrev pub inH : ℕ → Bool
+inH h = leb 1 h && leb h greatestH
+
+abbrev pub inM : ℕ → Bool
+inM m = leb 2 m && leb m greatestM
+
+abbrev pub inShape : ℕ → ℕ → Bool
+inShape h m = inH h && inM m
+
+abbrev pub phases : ℕ → ℕ
+phases h = 2 ^ h
+
+abbrev pub half : ℕ → ℕ
+half h = 2 ^ (h - 1)
+
+abbrev pub carriers : ℕ → ℕ
+carriers m = 2 ^ m
+
+abbrev pub pathsInUse : ℕ → ℕ
+pathsInUse m = 2 ^ pathBits m
+
+abbrev pub messageBits : ℕ → ℕ → ℕ
+messageBits h m = pathBits m + h * (m + 1)

@@ -1,0 +1,37 @@
+-- The transform: 01 "The transform by itself".
+-- Defines:  accepted z            whether z lies in -32,768..32,767, the range of a transform input; it stands here alone
+--           odd n                 whether n is odd
+--           shared m i j          how many ones the digits of i and j share
+--           spectrumAt m y j      entry j of the spectrum of y
+--           stage m k y i         what stage k writes at place i, from y
+--           stages m k y          what stands after stages 1, .., k
+-- Assumes nothing: these are definitions.
+use mathlib.Core.Bool.{Bool, _&&_, cond}
+use Prim.Native.Nat.{ℕ, zero, suc, _+_, _-_, _*_, _%_, _^_}
+use lib.Dec.{eqb}
+use lib.IntN.{ℤ, pos, negsuc, _+ℤ_, _-ℤ_}
+use lib.Signed.{leZ}
+use Rattle.range.specs.Below.{sumBelow}
+use Rattle.rules.specs.Shape.{carriers}
+use Rattle.rules.specs.Place.{digit}
+use Rattle.rules.specs.Soft.{sumℤ, signed}
+
+abbrev pub accepted : ℤ → Bool
+accepted z = leZ (negsuc 32767) z && leZ z (pos 32767)
+
+abbrev pub odd : ℕ → Bool
+odd n = eqb (n % 2) 1
+
+unfoldable pub shared : ℕ → ℕ → ℕ → ℕ
+shared m i j = sumBelow m (λ k. digit m i (suc k) * digit m j (suc k))
+
+unfoldable pub spectrumAt : ℕ → (ℕ → ℤ) → ℕ → ℤ
+spectrumAt m y j = sumℤ (carriers m) (λ i. signed (odd (shared m i j)) (y i))
+
+-- the pair of place i differs from it in x_k alone, 2^(m-k) away: the sum goes where x_k = 0, the first less the second where x_k = 1
+unfoldable pub stage : ℕ → ℕ → (ℕ → ℤ) → ℕ → ℤ
+stage m k y i = cond (eqb (digit m i k) 0) (y i +ℤ y (i + 2 ^ (m - k))) (y (i - 2 ^ (m - k)) -ℤ y i)
+
+unfoldable pub stages : ℕ → ℕ → (ℕ → ℤ) → ℕ → ℤ
+stages m zero y = y
+stages m (suc k) y = stage m (suc k) (stages m k y)
