@@ -64,8 +64,10 @@ unfolding firstBelow
 firstBelow-some zero f i h e b = absurd (not-suc-le-zero h)
 firstBelow-some (suc n) f zero h e b = rw e
 firstBelow-some (suc n) f (suc i) h e b =
-    rw (b zero (suc-le-suc zero-le),
-      firstBelow-some n (λ k. f (suc k)) i (le-of-suc-le-suc h) e (λ j l. b (suc j) (suc-le-suc l)))
+    rw (
+      b zero (suc-le-suc zero-le),
+      firstBelow-some n (λ k. f (suc k)) i (le-of-suc-le-suc h) e (λ j l. b (suc j) (suc-le-suc l)),
+    )
 
 pub firstBelow-none : (n : ℕ) (f : ℕ → Bool) → ((i : ℕ) → i < n → f i ≡ false) → firstBelow n f ≡ none
 unfolding firstBelow

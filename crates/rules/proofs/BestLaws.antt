@@ -1,12 +1,13 @@
 -- Laws of Best. In order: only one outcome satisfies it; a tied best from tests; equal values give label 0, tied.
 -- Assumes nothing.
 use mathlib.Core.Path.{_≡_, refl, sym, _∙_, ap, subst}
-use mathlib.Core.Bool.{Bool, true, false, not, true≢false}
-use mathlib.Core.Logic.{_≢_, _↔_, ⊎-elim}
+use mathlib.Core.Bool.{Bool, true, false, not}
+use mathlib.Core.Logic.{_≢_, _↔_}
 use Prim.Native.Nat.{ℕ, _<_, _≤_}
-use native.Mathlib.Nat.{not-suc-le-zero, le-antisymm, lt-of-not-le}
+use native.Mathlib.Nat.{not-suc-le-zero, le-antisymm, lt-of-not-le, le-of-suc-le-suc}
 use native.Mathlib.Decide.{decLt}
-use lib.Dec.{T}
+use lib.Dec.{T, T-not}
+use lib.IntN.{ℤ, pos, negsuc}
 use Rattle.range.specs.Below.{allBelow}
 use Rattle.range.proofs.Tests.{allBelow-at}
 use Rattle.rules.specs.Best.{Best}
@@ -16,11 +17,51 @@ bool-of-iff true b e = sym (e .0 refl)
 bool-of-iff false true e = e .1 refl
 bool-of-iff false false e = refl
 
-module _ {X : Type 0} (noBetter : X → X → Bool) (value : ℕ → X) (n : ℕ) where
-  -- of two bests the later label is no earlier than the other
+module _ {X : Type 0} (n : ℕ) (noBetter : X → X → Bool) (value : ℕ → X) where
   best-le : (l k : ℕ) (v : X) (s t : Bool) → Best n noBetter value l v s → Best n noBetter value k v t → l ≤ k
-  best-le l k v s t p q =
-      elim (decLt k l) [ yes h ↦ absurd (p .earliest k h (sym (q .its))) | no h ↦ le-of h ]
+  best-le l k v s t p q = elim (decLt k l) [ yes h ↦ absurd (p .earliest k h (sym (q .its))) | no h ↦ le-of h ]
     where
       le-of : (k < l → ⊥) → l ≤ k
-      le-of h = native.Mathlib.Nat.le-of-suc-le-suc (lt-of-not-le h)
+      le-of h = le-of-suc-le-suc (lt-of-not-le h)
+
+  best-no-better : (l k : ℕ) (v w : X) (s t : Bool) → Best n noBetter value l v s → Best n noBetter value k w t → T (noBetter v w)
+  best-no-better l k v w s t p q = subst (λ (x : X). T (noBetter x w)) (sym (p .its)) (q .best l (p .inside))
+
+  best-label : (l k : ℕ) (v : X) (s t : Bool) → Best n noBetter value l v s → Best n noBetter value k v t → l ≡ k
+  best-label l k v s t p q = le-antisymm (best-le l k v s t p q) (best-le k l v t s q p)
+
+  best-tied : (l : ℕ) (v : X) (s t : Bool) → Best n noBetter value l v s → Best n noBetter value l v t → s ≡ t
+  best-tied l v s t p q = bool-of-iff s t (λ e. q .tie .1 (p .tie .0 e), λ e. p .tie .1 (q .tie .0 e))
+
+  -- only one outcome satisfies Best, where two values that are no better than each other are equal
+  pub best-unique : ((u v : X) → T (noBetter u v) → T (noBetter v u) → u ≡ v) → (l k : ℕ) (v w : X) (s t : Bool) →
+      Best n noBetter value l v s → Best n noBetter value k w t → (l ≡ k) × (v ≡ w) × (s ≡ t)
+  best-unique anti l k v w s t p q =
+      let e : v ≡ w = anti v w (best-no-better l k v w s t p q) (best-no-better k l w v t s q p) in
+      let r : Best n noBetter value k v t = subst (λ (x : X). Best n noBetter value k x t) (sym e) q in
+      let i : l ≡ k = best-label l k v s t p r in
+      (i, e, best-tied k v s t (subst (λ (j : ℕ). Best n noBetter value j v s) i p) r)
+
+  -- a best that is tied with k, by tests: every value is no better than l's, each before l is not as good, and k's is equal
+  pub best-of-tests : (l k : ℕ) → l < n → k < n → k ≢ l → value k ≡ value l → T (noBetter (value l) (value l)) →
+      allBelow n (λ j. noBetter (value j) (value l)) ≡ true → allBelow l (λ j. not (noBetter (value l) (value j))) ≡ true →
+      Best n noBetter value l (value l) true
+  best-of-tests l k hl hk ne e self all before = record {
+    inside = hl;
+    its = refl;
+    best = λ j h. subst T (sym (allBelow-at n (λ i. noBetter (value i) (value l)) all j h)) tt;
+    earliest = λ j h q. T-not (noBetter (value l) (value j))
+        (subst T (sym (allBelow-at l (λ i. not (noBetter (value l) (value i))) before j h)) tt)
+        (subst (λ (x : X). T (noBetter (value l) x)) (sym q) self);
+    tie = (λ _. ∣ (k, hk, ne, e) ∣₁, λ _. refl);
+  }
+
+  -- where all values are equal the first label is best, and it is tied with the second
+  pub best-of-equal : (v : X) → 1 < n → ((k : ℕ) → value k ≡ v) → T (noBetter v v) → Best n noBetter value 0 v true
+  best-of-equal v two all self = record {
+    inside = le-of-suc-le-suc (native.Mathlib.Nat.le-step two);
+    its = sym (all 0);
+    best = λ k _. subst (λ (x : X). T (noBetter x v)) (sym (all k)) self;
+    earliest = λ k h. absurd (not-suc-le-zero h);
+    tie = (λ _. ∣ (1, two, native.Mathlib.Nat.suc-ne-zero 0, all 1) ∣₁, λ _. refl);
+  }

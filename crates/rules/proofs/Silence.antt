@@ -1,0 +1,70 @@
+-- Soft values that are all zero: every correlation is zero, for two and four phases and every m.
+-- In order: a zero value is heard as zero; zeros sum to zero; the correlation; the best of equals.  Assumes nothing.
+use mathlib.Core.Path.{_≡_, refl, _∙_, sym, ap, subst}
+use mathlib.Core.Bool.{Bool, true, false, cond}
+use mathlib.Core.List.{List, [], _∷_}
+use Prim.Native.Nat.{ℕ, zero, suc, _+_, _*_, _^_, _<_, _≤_}
+use native.Mathlib.Nat.{pow-le-pow-right, lt-of-lt-of-le, le-refl}
+use native.Mathlib.Omega.{arith}
+use lib.Dec.{eqb, lit≤}
+use lib.IntN.{ℤ, pos}
+use lib.ListN.{getD, replicate}
+use lib.Signed.{leZ}
+use Rattle.rules.specs.Shape.{carriers, messageBits, pathBits}
+use Rattle.rules.specs.Label.{labels, labelOf}
+use Rattle.rules.specs.Word.{wordAt}
+use Rattle.rules.specs.Soft.{sumℤ, signed, heard, heardTwo, heardFour, correlation, softLength}
+use Rattle.rules.specs.Best.{Greatest}
+use Rattle.rules.proofs.BestLaws.{best-of-equal}
+
+zeros : ℕ → List ℤ
+zeros n = replicate n (pos 0)
+
+zeros-at : (n i : ℕ) → getD (zeros n) i (pos 0) ≡ pos 0
+unfolding zeros
+zeros-at zero i = refl
+zeros-at (suc n) zero = refl
+zeros-at (suc n) (suc i) = zeros-at n i
+
+signed-zero : (b : Bool) → signed b (pos 0) ≡ pos 0
+signed-zero true = refl
+signed-zero false = refl
+
+heardFour-zero : (s : ℕ) → heardFour (pos 0) (pos 0) s ≡ pos 0
+heardFour-zero zero = refl
+heardFour-zero (suc zero) = refl
+heardFour-zero (suc (suc zero)) = refl
+heardFour-zero (suc (suc (suc s))) = refl
+
+cond-same : (b : Bool) (x y z : ℤ) → x ≡ z → y ≡ z → cond b x y ≡ z
+cond-same true x y z p q = p
+cond-same false x y z p q = q
+
+heard-zero : (h n i s : ℕ) → heard h (zeros n) i s ≡ pos 0
+unfolding heard
+heard-zero h n i s =
+    rw (zeros-at n i, zeros-at n (2 * i), zeros-at n (2 * i + 1))
+    (cond-same (eqb h 1) (heardTwo (pos 0) s) (heardFour (pos 0) (pos 0) s) (pos 0) (signed-zero (eqb s 1)) (heardFour-zero s))
+
+sumℤ-zero : (n : ℕ) (f : ℕ → ℤ) → ((i : ℕ) → f i ≡ pos 0) → sumℤ n f ≡ pos 0
+unfolding sumℤ
+sumℤ-zero zero f e = refl
+sumℤ-zero (suc n) f e = rw (e zero, sumℤ-zero n (λ i. f (suc i)) (λ i. e (suc i)))
+
+correlation-zero : (h m n l : ℕ) → correlation h m (zeros n) l ≡ pos 0
+unfolding correlation
+correlation-zero h m n l =
+    sumℤ-zero (carriers m) (λ i. heard h (zeros n) i (wordAt h m l i)) (λ i. heard-zero h n i (wordAt h m l i))
+
+-- a shape has at least two labels
+pub labels-two : (h m : ℕ) → 1 ≤ h → 1 < labels h m
+labels-two h m one =
+    let b : 1 ≤ messageBits h m = omega (arith, native.Mathlib.Nat.mul-le-mul {n₁ = 1} {m₁ = 1} {n₂ = h} {m₂ = m + 1} one (omega arith)) in
+    lt-of-lt-of-le (le-refl 2) (pow-le-pow-right {n = 2} (lit≤ tt) {i = 1} {j = messageBits h m} b)
+
+-- 01: any soft shape, all zeros
+pub greatest-of-zeros : (h m : ℕ) → 1 ≤ h → Greatest h m (replicate (softLength h m) (pos 0)) (labelOf h m 0) (pos 0) true
+unfolding zeros labelOf
+greatest-of-zeros h m one =
+    best-of-equal (labels h m) leZ (correlation h m (zeros (softLength h m))) (pos 0) (labels-two h m one)
+    (λ l. correlation-zero h m (softLength h m) l) tt
