@@ -1,0 +1,2 @@
+-- Bounds that a shape in range gives.
+pub mod Range

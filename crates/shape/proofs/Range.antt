@@ -1,0 +1,64 @@
+-- Bounds that a shape in range gives, so that no sum or shift of the code wraps.
+-- In order: the ranges of h and m; w; the bits of a message number; the limit of a message number.  Assumes nothing.
+use mathlib.Core.Path.{_≡_, refl, sym, _∙_}
+use mathlib.Core.Bool.{Bool, true, false, not, cond, _&&_}
+use mathlib.Core.List.{List, [], _∷_}
+use Prim.Native.Nat.{ℕ, zero, suc, _+_, _-_, _*_, _^_, _≤_, _<_, zero-le}
+use native.Mathlib.Nat.{mul-le-mul}
+use native.Mathlib.Omega.{arith}
+use lib.Dec.{leb, ltb, lit≤}
+use lib.ListN.{getD}
+use borrow.Author.Tests.{leb-true, leb-false, le-leb, lt-leb, le-ltb, lt-ltb}
+use Rattle.range.proofs.Tests.{and-left, and-right}
+use Rattle.rules.specs.Shape.{greatestH, greatestM, pathBits, inH, inM, inShape, messageBits}
+use Rattle.rules.specs.Refusal.{badMessage}
+
+pub record InRange (h m : ℕ) : Type 0 where
+  pub h-least : 1 ≤ h
+  pub h-most : h ≤ greatestH
+  pub m-least : 2 ≤ m
+  pub m-most : m ≤ greatestM
+
+pub inShape-range : (h m : ℕ) → inShape h m ≡ true → InRange h m
+inShape-range h m e =
+    let a : inH h ≡ true = and-left (inH h) (inM m) e in
+    let b : inM m ≡ true = and-right (inH h) (inM m) e in
+    record {
+      h-least = leb-true 1 h (and-left (leb 1 h) (leb h greatestH) a);
+      h-most = leb-true h greatestH (and-right (leb 1 h) (leb h greatestH) a);
+      m-least = leb-true 2 m (and-left (leb 2 m) (leb m greatestM) b);
+      m-most = leb-true m greatestM (and-right (leb 2 m) (leb m greatestM) b);
+    }
+
+-- no entry of the table is above 5
+entry-le : (i : ℕ) → getD (0 ∷ 1 ∷ 3 ∷ 5 ∷ []) i 0 ≤ 5
+entry-le zero = lit≤ tt
+entry-le (suc zero) = lit≤ tt
+entry-le (suc (suc zero)) = lit≤ tt
+entry-le (suc (suc (suc zero))) = lit≤ tt
+entry-le (suc (suc (suc (suc i)))) = lit≤ tt
+
+pub pathBits-le : (m : ℕ) → pathBits m ≤ 5
+unfolding pathBits
+pathBits-le m = entry-le (m - 2)
+
+pub coefficientBits-le : (h m : ℕ) → InRange h m → h * (m + 1) ≤ greatestH * (greatestM + 1)
+coefficientBits-le h m r = mul-le-mul {n₁ = h} {m₁ = m + 1} {n₂ = greatestH} {m₂ = greatestM + 1} (r .h-most) (omega (arith, r .m-most))
+
+pub messageBits-le : (h m : ℕ) → InRange h m → messageBits h m ≤ 23
+messageBits-le h m r = omega (arith, pathBits-le m, coefficientBits-le h m r)
+
+-- below is not at least
+pub ltb-not-leb : (a b : ℕ) → ltb a b ≡ not (leb b a)
+ltb-not-leb a b = go (leb b a) refl
+  where
+    go : (t : Bool) → leb b a ≡ t → ltb a b ≡ not t
+    go true e = le-ltb a b (leb-true b a e)
+    go false e = lt-ltb a b (leb-false b a e)
+
+-- the limit of a message number fits 64 bits, so that the test against it is the table's
+pub takes-test : (h m g : ℕ) → inShape h m ≡ true →
+    ltb g (cond (ltb (messageBits h m) 64) (2 ^ messageBits h m) 0) ≡ (inShape h m && not (badMessage h m g))
+takes-test h m g e =
+    let b : messageBits h m < 64 = omega (arith, messageBits-le h m (inShape-range h m e)) in
+    rw (e, lt-ltb (messageBits h m) 64 b) (ltb-not-leb g (2 ^ messageBits h m))

@@ -1,0 +1,98 @@
+// The tests of document 01's table and the numbers that a shape gives, as code.
+// No function here has a requires: each is right, or says what it gives, for every argument.
+// The greatest h, the greatest m and the table w stand here alone; their definitions are in rules, specs/Shape.antt.
+use kinds::MessageNumber;
+use kinds::Place;
+use kinds::Search;
+ghost use mathlib.Core.Path.{_≡_};
+ghost use mathlib.Core.Bool.{not, cond, _&&_};
+ghost use Prim.Native.Nat.{_^_};
+ghost use lib.Dec.{leb, ltb};
+ghost use lib.ListN.{length};
+ghost use Rattle.range.specs.Below.{firstBelow};
+ghost use Rattle.rules.specs.Shape.{pathBits, inShape};
+ghost use Rattle.rules.specs.Label.{labelOf, messageOf};
+ghost use Rattle.rules.specs.Refusal.{at, badMessage};
+ghost use Rattle.kinds.specs.Told.{searchTold};
+
+const GREATEST_H: u32 = 3;
+
+const GREATEST_M: u32 = 5;
+
+const PATH_BITS: [u32; 4] = [0, 1, 3, 5];
+
+// Whether h is in 1..3 and m in 2..5.
+pub fn in_shape(h: u32, m: u32) -> bool
+    ensures { λ r. ⌜ r ≡ inShape h m ⌝ }
+{
+    if h < 1 {
+        return false;
+    }
+    if GREATEST_H < h {
+        return false;
+    }
+    if m < 2 {
+        return false;
+    }
+    if GREATEST_M < m {
+        return false;
+    }
+    true
+}
+
+// 2^e where that fits 64 bits, else 0.
+pub fn power(e: u32) -> u64
+    ensures { λ r. ⌜ r ≡ cond (ltb e 64) (2 ^ e) 0 ⌝ }
+{
+    if e < 64 { 1u64 << e } else { 0 }
+}
+
+// w, the bits of a path number: 0 outside the table.
+pub fn path_bits(m: u32) -> u32
+    ensures { λ r. ⌜ r ≡ pathBits m ⌝ }
+{
+    if m < 2 {
+        return 0;
+    }
+    let at = (m - 2) as usize;
+    if at < 4 { PATH_BITS[at] } else { 0 }
+}
+
+// Whether the shape is in range and the message number needs no more than its bits.
+pub fn takes(h: u32, m: u32, message: MessageNumber) -> bool
+    ensures { λ r. ⌜ r ≡ (inShape h m && not (badMessage h m (message .0))) ⌝ }
+{
+    if !in_shape(h, m) {
+        return false;
+    }
+    let g = message.0;
+    let limit = power(path_bits(m) + h * (m + 1));
+    g < limit
+}
+
+// The label number of a message number, and back. Today they are the same number.
+pub fn label_of(h: u32, m: u32, message: MessageNumber) -> u64
+    ensures { λ r. ⌜ r ≡ labelOf h m (message .0) ⌝ }
+{
+    message.0
+}
+
+pub fn message_of(h: u32, m: u32, label: u64) -> MessageNumber
+    ensures { λ r. ⌜ r .0 ≡ messageOf h m label ⌝ }
+{
+    MessageNumber(label)
+}
+
+// The first symbol of a word that is q or more.
+pub fn first_bad(q: u64, word: &[u8]) -> Search
+    ensures { λ r. ⌜ searchTold r ≡ firstBelow (length (now (word .entry))) (λ i. leb q (at (now (word .entry)) i)) ⌝ }
+{
+    let mut i = 0;
+    while i < word.len() {
+        if q <= word[i] as u64 {
+            return Search::At(Place(i));
+        }
+        i += 1;
+    }
+    Search::Nowhere
+}
