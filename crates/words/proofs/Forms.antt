@@ -1,0 +1,53 @@
+-- The form as code computes it: rules' Word and Place. In order: the symbols are below 2^h; the form by the rows of the
+-- generator; the partner from the form, with one reduction; the words as lists.
+-- Not here: what a word shows of its label (Readings, Inject).  Assumes nothing.
+use mathlib.Core.Path.{_≡_}
+use Prim.Native.Nat.{ℕ, zero, suc, _+_, _*_, _%_, _<_}
+use native.Mathlib.Nat.{mod-lt, mod-add-mod}
+use native.Mathlib.Numerals.{add-one}
+use native.Mathlib.Omega.{arith}
+use lib.ListN.{length, getD}
+use lib.Pow.{pow-pos}
+use Rattle.range.specs.Below.{sumBelow}
+use Rattle.range.proofs.Lists.{length-listBelow, listBelow-at}
+use Rattle.rules.specs.Shape.{phases, half, carriers}
+use Rattle.rules.specs.Place.{digit, generatorAt}
+use Rattle.rules.specs.Path.{headOf, pathAt}
+use Rattle.rules.specs.Label.{labelPath, coefficient, constant, rowCoefficient, labelOf}
+use Rattle.rules.specs.Word.{links, formAt, wordAt, partnerAt, wordOf, partnerOf}
+
+pub wordAt-lt : (h m l i : ℕ) → wordAt h m l i < phases h
+unfolding wordAt
+wordAt-lt h m l i = mod-lt (formAt h m l i) (pow-pos h)
+
+pub partnerAt-lt : (h m l i : ℕ) → partnerAt h m l i < phases h
+unfolding partnerAt
+partnerAt-lt h m l i = mod-lt _ (pow-pos h)
+
+pub formAt-rows : (h m l i : ℕ) → formAt h m l i ≡
+    half h * links (digit m i) (pathAt m (labelPath h m l))
+    + sumBelow (m + 1) (λ r. rowCoefficient h m l r * generatorAt m r i)
+unfolding formAt sumBelow rowCoefficient generatorAt
+formAt-rows h m l i = rw add-one (omega arith)
+
+pub partnerAt-form : (h m l i : ℕ) → partnerAt h m l i ≡
+    (formAt h m l i + half h * digit m i (headOf (pathAt m (labelPath h m l)))) % phases h
+unfolding partnerAt wordAt
+partnerAt-form h m l i = mod-add-mod (formAt h m l i) (phases h) _
+
+-- the words as lists: their lengths and their symbols
+pub length-wordOf : (h m g : ℕ) → length (wordOf h m g) ≡ carriers m
+unfolding wordOf
+length-wordOf h m g = length-listBelow (carriers m) _
+
+pub wordOf-at : (h m g i : ℕ) → i < carriers m → getD (wordOf h m g) i 0 ≡ wordAt h m (labelOf h m g) i
+unfolding wordOf
+wordOf-at h m g i l = listBelow-at (carriers m) (wordAt h m (labelOf h m g)) i 0 l
+
+pub length-partnerOf : (h m g : ℕ) → length (partnerOf h m g) ≡ carriers m
+unfolding partnerOf
+length-partnerOf h m g = length-listBelow (carriers m) _
+
+pub partnerOf-at : (h m g i : ℕ) → i < carriers m → getD (partnerOf h m g) i 0 ≡ partnerAt h m (labelOf h m g) i
+unfolding partnerOf
+partnerOf-at h m g i l = listBelow-at (carriers m) (partnerAt h m (labelOf h m g)) i 0 l

@@ -1,0 +1,144 @@
+-- The law that the word determines its label: 001 Corollary 4, 01 "What a logger may send". In order: sums modulo q
+-- with an equal summand; multiples of half the phases; the links at the place with two digits; what two labels with the
+-- same word share, part by part; the law for labels, and for messages.
+-- Not here: what a word shows at single places (Readings).  Two facts about paths are parameters: every path in use is
+-- good, and its links at the pairs, modulo 2, determine it.  Assumes nothing else.
+use mathlib.Core.Path.{_≡_, refl, sym, _∙_, ap, ap₂}
+use mathlib.Core.Bool.{Bool, true, false, _||_, false≢true}
+use mathlib.Core.Logic.{_≢_}
+use mathlib.Core.List.{List}
+use Prim.Native.Nat.{ℕ, suc, _+_, _-_, _*_, _/_, _%_, _^_, _≤_, _<_, zero-le, suc-le-suc}
+use native.Mathlib.Nat.{add-assoc, mod-add-mod, add-mul-mod-self-right, div-add-mod', suc-mul, mod-lt, mul-div-cancel}
+use native.Mathlib.Nat.{mul-mod-left, mul-comm, pow-succ', eq-of-mul-eq-mul-right, add-zero}
+use native.Mathlib.Omega.{arith}
+use lib.Arith.{mod-mul}
+use lib.Dec.{T, eqb, eqb→eq, eqb-refl}
+use lib.ListN.{getD}
+use lib.Pow.{pow-pos}
+use Rattle.range.specs.Below.{one?}
+use Rattle.range.proofs.Sums.{sumBelow-cong}
+use Rattle.rules.specs.Shape.{phases, half, carriers, pathsInUse, messageBits}
+use Rattle.rules.specs.Place.{digit}
+use Rattle.rules.specs.Path.{pathAt}
+use Rattle.rules.specs.Label.{labels, labelPath, coefficient, constant, labelOf, messageOf}
+use Rattle.rules.specs.Word.{links, formAt, wordAt, wordOf}
+use Rattle.rules.specs.Pair.{minus}
+use Rattle.words.proofs.Digits.{one-lt, twoAt, digit-two-lt, digit-two-first, digit-two-second, digit-two-off}
+use Rattle.words.proofs.Labels.{label-inj, labelPath-lt, messageOf-labelOf, labelOf-lt}
+use Rattle.words.proofs.Forms.{wordOf-at}
+use Rattle.words.proofs.Readings.{Good, links-cong, linear, wordAt-zero, coefficient-read}
+
+-- s and what completes it to a multiple of q
+multiple : (q s : ℕ) → 0 < q → suc (s / q) * q ≡ s + (q - s % q)
+multiple q s p = omega (arith, suc-mul (s / q) q, div-add-mod' s q, mod-lt s p)
+
+complete : (q x s : ℕ) → 0 < q → x % q ≡ ((x + s) % q + (q - s % q)) % q
+complete q x s p =
+    sym (add-mul-mod-self-right x (suc (s / q)) q)
+    ∙ rw (multiple q s p, ← (add-assoc x s (q - s % q))) (sym (mod-add-mod (x + s) q (q - s % q)))
+
+mod-cancel : (q x y s : ℕ) → 0 < q → (x + s) % q ≡ (y + s) % q → x % q ≡ y % q
+mod-cancel q x y s p e = complete q x s p ∙ rw e (sym (complete q y s p))
+
+-- a multiple of c modulo 2 c tells the parity of the factor
+double-mod : (c x : ℕ) → 0 < c → c * x % (2 * c) ≡ x % 2 * c
+double-mod c x p =
+    rw (mul-comm c x) (mod-mul (x * c) (omega arith) p ∙ rw (mul-div-cancel x p, mul-mod-left) (add-zero _))
+
+pub phases-half : (h : ℕ) → 1 ≤ h → phases h ≡ 2 * half h
+phases-half h b =
+    let e : h ≡ suc (h - 1) = omega arith in
+    ap (λ (n : ℕ). 2 ^ n) e ∙ pow-succ' 2 (h - 1)
+
+half-mod : (h x : ℕ) → 1 ≤ h → half h * x % phases h ≡ x % 2 * half h
+half-mod h x b = rw (phases-half h b) (double-mod (half h) x (pow-pos (h - 1)))
+
+half-parity : (h x y : ℕ) → 1 ≤ h → half h * x % phases h ≡ half h * y % phases h → x % 2 ≡ y % 2
+half-parity h x y b e =
+    eq-of-mul-eq-mul-right (half h) (pow-pos (h - 1)) (x % 2) (y % 2) (sym (half-mod h x b) ∙ e ∙ half-mod h y b)
+
+-- 1 on a and b, and 0 elsewhere
+abbrev pub onPair : ℕ → ℕ → ℕ → ℕ
+onPair a b k = one? (eqb k a || eqb k b)
+
+eqb-true : (j a : ℕ) → eqb j a ≡ true → j ≡ a
+eqb-true j a e = eqb→eq j a (rw e tt)
+
+of-T : (b : Bool) → T b → b ≡ true
+of-T true t = refl
+
+eqb-false : (j a : ℕ) → eqb j a ≡ false → j ≢ a
+eqb-false j a e p = false≢true (sym e ∙ rw p (of-T (eqb a a) (eqb-refl a)))
+
+module _ (m a b : ℕ) (la : 1 ≤ a) (lb : a < b) (lm : b ≤ m) where
+  digit-onPair : (j : ℕ) → j ≤ m → digit m (twoAt m a b) j ≡ onPair a b j
+  digit-onPair j l = at (eqb j a) (eqb j b) refl refl
+    where
+      at : (s t : Bool) → eqb j a ≡ s → eqb j b ≡ t → digit m (twoAt m a b) j ≡ one? (s || t)
+      at true t p q = rw (eqb-true j a p) (digit-two-first m a b la lb lm)
+      at false true p q = rw (eqb-true j b q) (digit-two-second m a b la lb lm)
+      at false false p q = digit-two-off m a b la lb lm j l (eqb-false j a p) (eqb-false j b q)
+
+  links-onPair : (p : List ℕ) → Good m p → links (digit m (twoAt m a b)) p ≡ links (onPair a b) p
+  links-onPair p g =
+      links-cong (digit m (twoAt m a b)) (onPair a b) p (λ i l. digit-onPair (getD p i 0) (g .within i l))
+
+-- the links of label l at place i
+abbrev linked : ℕ → ℕ → ℕ → ℕ → ℕ
+linked h m l i = links (digit m i) (pathAt m (labelPath h m l))
+
+wordAt-parts : (h m l i : ℕ) → wordAt h m l i ≡ (half h * linked h m l i + (linear h m l i + constant h l)) % phases h
+unfolding wordAt formAt
+wordAt-parts h m l i = rw add-assoc
+
+module _ (m : ℕ) (good : (n : ℕ) → n < pathsInUse m → Good m (pathAt m n))
+    (links-inj : (n k : ℕ) → n < pathsInUse m → k < pathsInUse m →
+    ((a b : ℕ) → 1 ≤ a → a < b → b ≤ m → links (onPair a b) (pathAt m n) % 2 ≡ links (onPair a b) (pathAt m k) % 2) →
+    n ≡ k) where
+  module _ (h l k : ℕ) (pos : 1 ≤ h) (ll : l < labels h m) (lk : k < labels h m)
+      (same : (i : ℕ) → i < carriers m → wordAt h m l i ≡ wordAt h m k i) where
+    same-constant : constant h l ≡ constant h k
+    same-constant = sym (wordAt-zero h m l) ∙ same 0 (pow-pos m) ∙ wordAt-zero h m k
+
+    good-label : (n : ℕ) → n < labels h m → Good m (pathAt m (labelPath h m n))
+    good-label n b = good (labelPath h m n) (labelPath-lt h m n b)
+
+    same-coefficient : (j : ℕ) → 1 ≤ j → j ≤ m → coefficient h m l j ≡ coefficient h m k j
+    same-coefficient j a b =
+        coefficient-read h m l (good-label l ll) j a b
+        ∙ ap₂ (minus (phases h)) (same (2 ^ (m - j)) (one-lt m j a b)) (same 0 (pow-pos m))
+        ∙ sym (coefficient-read h m k (good-label k lk) j a b)
+
+    same-linear : (i : ℕ) → linear h m l i ≡ linear h m k i
+    same-linear i = sumBelow-cong m _ _ (λ j b. rw (same-coefficient (suc j) (suc-le-suc zero-le) b))
+
+    same-parity : (i : ℕ) → i < carriers m → linked h m l i % 2 ≡ linked h m k i % 2
+    same-parity i b =
+        let s : ℕ = linear h m k i + constant h k in
+        let e : (half h * linked h m l i + s) % phases h ≡ (half h * linked h m k i + s) % phases h =
+        rw (same-linear i, same-constant) at (sym (wordAt-parts h m l i) ∙ same i b ∙ wordAt-parts h m k i) in
+        half-parity h (linked h m l i) (linked h m k i) pos
+        (mod-cancel (phases h) (half h * linked h m l i) (half h * linked h m k i) s (pow-pos h) e)
+
+    same-links : (a b : ℕ) → 1 ≤ a → a < b → b ≤ m →
+        links (onPair a b) (pathAt m (labelPath h m l)) % 2 ≡ links (onPair a b) (pathAt m (labelPath h m k)) % 2
+    same-links a b p q r =
+        ap (λ (n : ℕ). n % 2) (sym (links-onPair m a b p q r (pathAt m (labelPath h m l)) (good-label l ll)))
+        ∙ same-parity (twoAt m a b) (digit-two-lt m a b p q r)
+        ∙ ap (λ (n : ℕ). n % 2) (links-onPair m a b p q r (pathAt m (labelPath h m k)) (good-label k lk))
+
+    same-path : labelPath h m l ≡ labelPath h m k
+    same-path = links-inj _ _ (labelPath-lt h m l ll) (labelPath-lt h m k lk) same-links
+
+  pub wordAt-inj : (h l k : ℕ) → 1 ≤ h → l < labels h m → k < labels h m →
+      ((i : ℕ) → i < carriers m → wordAt h m l i ≡ wordAt h m k i) → l ≡ k
+  wordAt-inj h l k p a b s =
+      label-inj h m l k (same-path h l k p a b s) (same-coefficient h l k p a b s) (same-constant h l k p a b s)
+
+  pub wordOf-inj : (h g g′ : ℕ) → 1 ≤ h → g < 2 ^ messageBits h m → g′ < 2 ^ messageBits h m →
+      wordOf h m g ≡ wordOf h m g′ → g ≡ g′
+  wordOf-inj h g g′ p b b′ e =
+      let same : (i : ℕ) → i < carriers m → wordAt h m (labelOf h m g) i ≡ wordAt h m (labelOf h m g′) i =
+      λ i l. sym (wordOf-at h m g i l) ∙ ap (λ (w : List ℕ). getD w i 0) e ∙ wordOf-at h m g′ i l in
+      let f : labelOf h m g ≡ labelOf h m g′ = wordAt-inj h _ _ p (labelOf-lt h m g b) (labelOf-lt h m g′ b′) same in
+      sym (messageOf-labelOf h m g) ∙ ap (messageOf h m) f ∙ messageOf-labelOf h m g′

@@ -1,0 +1,7 @@
+-- Laws of labels and words.
+pub mod Digits
+pub mod Labels
+pub mod Order
+pub mod Forms
+pub mod Readings
+pub mod Inject

@@ -1,0 +1,116 @@
+-- What a word shows of its label: rules' Word. At place 0 it shows the constant, and at the place with digit k alone it
+-- shows c_k more. In order: links, by the digits on the path, and where no two neighbours have digit 1; the paths in
+-- question; a sum with one summand; the forms at these places; the words there; the coefficient read back.
+-- Not here: that the word determines its label (Inject).  Assumes nothing.
+use mathlib.Core.Path.{_≡_, refl, sym, _∙_}
+use mathlib.Core.Logic.{_≢_}
+use mathlib.Core.List.{List, [], _∷_}
+use Prim.Native.Nat.{ℕ, zero, suc, _+_, _-_, _*_, _%_, _^_, _≤_, _<_, suc-le-suc}
+use native.Mathlib.Nat.{le-refl, mul-zero, zero-mul, mul-one, zero-add, add-zero, mod-eq-of-lt, mod-add-mod}
+use native.Mathlib.Nat.{add-mod-right, not-suc-le-zero}
+use native.Mathlib.Decide.{ℕ-discrete}
+use native.Mathlib.Omega.{arith}
+use lib.ListN.{length, getD}
+use Rattle.range.specs.Below.{sumBelow}
+use Rattle.range.proofs.Sums.{sumBelow-zero}
+use Rattle.rules.specs.Shape.{phases}
+use Rattle.rules.specs.Place.{digit}
+use Rattle.rules.specs.Path.{pathAt}
+use Rattle.rules.specs.Label.{labelPath, coefficient, constant}
+use Rattle.rules.specs.Word.{links, formAt, wordAt}
+use Rattle.rules.specs.Pair.{minus}
+use Rattle.words.proofs.Digits.{digit-zero, digit-one-at, digit-one-off}
+use Rattle.words.proofs.Labels.{coefficient-lt, constant-lt}
+
+-- links looks at x on the path alone
+pub links-cong : (x y : ℕ → ℕ) (p : List ℕ) → ((i : ℕ) → i < length p → x (getD p i 0) ≡ y (getD p i 0)) →
+    links x p ≡ links y p
+unfolding links
+links-cong x y [] e = refl
+links-cong x y (a ∷ []) e = refl
+links-cong x y (a ∷ (b ∷ p)) e =
+    rw (e 0 (omega arith), e 1 (omega arith), links-cong x y (b ∷ p) (λ i l. e (suc i) (suc-le-suc l)))
+
+pub links-zero : (x : ℕ → ℕ) (p : List ℕ) →
+    ((i : ℕ) → suc i < length p → x (getD p i 0) * x (getD p (suc i) 0) ≡ 0) → links x p ≡ 0
+unfolding links
+links-zero x [] e = refl
+links-zero x (a ∷ []) e = refl
+links-zero x (a ∷ (b ∷ p)) e =
+    omega (arith, e 0 (omega arith), links-zero x (b ∷ p) (λ i l. e (suc i) (suc-le-suc l)))
+
+-- a path on the digits: its elements are numbers of digits, and neighbours differ
+pub record Good (m : ℕ) (p : List ℕ) : Type 0 where
+  pub within : (i : ℕ) → i < length p → getD p i 0 ≤ m
+  pub apart : (i : ℕ) → suc i < length p → getD p i 0 ≢ getD p (suc i) 0
+
+pub good-of-different : (m : ℕ) (p : List ℕ) → ((i : ℕ) → i < length p → getD p i 0 ≤ m) →
+    ((i j : ℕ) → i < j → j < length p → getD p i 0 ≢ getD p j 0) → Good m p
+good-of-different m p w d = record { within = w; apart = λ i b. d i (suc i) (le-refl (suc i)) b }
+
+pub links-digit-zero : (m : ℕ) (p : List ℕ) → links (digit m 0) p ≡ 0
+links-digit-zero m p = links-zero (digit m 0) p (λ i l. rw (digit-zero m (getD p i 0)) (zero-mul _))
+
+-- one of two different digits is not digit k
+one-product : (m k a b : ℕ) → k ≤ m → a ≤ m → b ≤ m → a ≢ b → Dec (a ≡ k) →
+    digit m (2 ^ (m - k)) a * digit m (2 ^ (m - k)) b ≡ 0
+one-product m k a b l la lb n (yes e) = rw (digit-one-off m k b l lb (omega arith)) (mul-zero _)
+one-product m k a b l la lb n (no e) = rw (digit-one-off m k a l la e) (zero-mul _)
+
+pub links-digit-one : (m k : ℕ) (p : List ℕ) → Good m p → k ≤ m → links (digit m (2 ^ (m - k))) p ≡ 0
+links-digit-one m k p g l = links-zero (digit m (2 ^ (m - k))) p (λ i b.
+    one-product m k (getD p i 0) (getD p (suc i) 0) l (g .within i (omega arith)) (g .within (suc i) b) (g .apart i b)
+    (ℕ-discrete (getD p i 0) k))
+
+pub sumBelow-only : (n k : ℕ) (f : ℕ → ℕ) → k < n → ((i : ℕ) → i < n → i ≢ k → f i ≡ 0) → sumBelow n f ≡ f k
+unfolding sumBelow
+sumBelow-only zero k f l e = absurd (not-suc-le-zero l)
+sumBelow-only (suc n) zero f l e =
+    rw (sumBelow-zero n (λ i. f (suc i)) (λ i b. e (suc i) (suc-le-suc b) (omega arith))) (add-zero (f 0))
+sumBelow-only (suc n) (suc k) f l e =
+    rw (e 0 (omega arith) (omega arith)) (zero-add _ ∙ sumBelow-only n k (λ i. f (suc i)) (omega arith)
+    (λ i b d. e (suc i) (suc-le-suc b) (omega arith)))
+
+-- the linear part of the form at place i
+abbrev pub linear : ℕ → ℕ → ℕ → ℕ → ℕ
+linear h m l i = sumBelow m (λ k. coefficient h m l (suc k) * digit m i (suc k))
+
+linear-zero : (h m l : ℕ) → linear h m l 0 ≡ 0
+linear-zero h m l = sumBelow-zero m _ (λ k b. rw (digit-zero m (suc k)) (mul-zero _))
+
+linear-one : (h m l k : ℕ) → k < m → linear h m l (2 ^ (m - suc k)) ≡ coefficient h m l (suc k)
+linear-one h m l k b =
+    sumBelow-only m k _ b (λ j c d. rw (digit-one-off m (suc k) (suc j) b c (omega arith)) (mul-zero _))
+    ∙ rw (digit-one-at m (suc k)) (mul-one _)
+
+formAt-zero : (h m l : ℕ) → formAt h m l 0 ≡ constant h l
+unfolding formAt
+formAt-zero h m l = rw (links-digit-zero, linear-zero h m l, mul-zero) (omega arith)
+
+pub wordAt-zero : (h m l : ℕ) → wordAt h m l 0 ≡ constant h l
+unfolding wordAt
+wordAt-zero h m l = rw formAt-zero (mod-eq-of-lt (constant-lt h l))
+
+-- a + b less b, modulo q
+minus-back : (q a b : ℕ) → a < q → b < q → minus q ((a + b) % q) b ≡ a
+unfolding minus
+minus-back q a b la lb =
+    let e : a + b + (q - b) ≡ a + q = omega arith in
+    mod-add-mod (a + b) q (q - b) ∙ rw (e, add-mod-right) (mod-eq-of-lt la)
+
+module _ (h m l : ℕ) (good : Good m (pathAt m (labelPath h m l))) where
+  formAt-one : (k : ℕ) → 1 ≤ k → k ≤ m → formAt h m l (2 ^ (m - k)) ≡ coefficient h m l k + constant h l
+  unfolding formAt
+  formAt-one zero a b = omega arith
+  formAt-one (suc k) a b = rw (links-digit-one m (suc k) _ good b, linear-one h m l k b, mul-zero) (omega arith)
+
+  pub wordAt-one : (k : ℕ) → 1 ≤ k → k ≤ m →
+      wordAt h m l (2 ^ (m - k)) ≡ (coefficient h m l k + constant h l) % phases h
+  unfolding wordAt
+  wordAt-one k a b = rw (formAt-one k a b)
+
+  pub coefficient-read : (k : ℕ) → 1 ≤ k → k ≤ m →
+      coefficient h m l k ≡ minus (phases h) (wordAt h m l (2 ^ (m - k))) (wordAt h m l 0)
+  coefficient-read k a b =
+      rw (wordAt-one k a b, wordAt-zero)
+      (sym (minus-back (phases h) (coefficient h m l k) (constant h l) (coefficient-lt h m l k) (constant-lt h l)))
