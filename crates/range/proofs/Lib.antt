@@ -1,4 +1,5 @@
 -- Laws of sums, counts, searches and lists below a number.
 pub mod Sums
 pub mod Tests
+pub mod FromOne
 pub mod Lists

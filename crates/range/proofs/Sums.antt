@@ -3,7 +3,7 @@
 use mathlib.Core.Path.{_≡_, refl, sym, _∙_, ap}
 use mathlib.Core.Bool.{Bool, true, false}
 use Prim.Native.Nat.{ℕ, zero, suc, _+_, _*_, _≤_, _<_, zero-le, suc-le-suc}
-use native.Mathlib.Nat.{add-zero, zero-add, add-assoc, mul-add, mul-zero, add-le-add, le-refl, suc-mul}
+use native.Mathlib.Nat.{mul-add, mul-zero, le-refl, suc-mul, not-suc-le-zero, le-of-suc-le-suc}
 use native.Mathlib.Numerals.{add-one}
 use native.Mathlib.Omega.{arith}
 use Rattle.range.specs.Below.{sumBelow, countBelow, one?}
@@ -56,3 +56,19 @@ one?-le false = zero-le
 pub countBelow-le : (n : ℕ) (f : ℕ → Bool) → countBelow n f ≤ n
 unfolding countBelow
 countBelow-le n f = omega (arith, sumBelow-le n 1 (λ i. one? (f i)) (λ i _. one?-le (f i)))
+
+-- one turn of a loop that adds up
+pub sumBelow-turn : (i s v : ℕ) (f : ℕ → ℕ) → s ≡ sumBelow i f → v ≡ f i → s + v ≡ sumBelow (i + 1) f
+sumBelow-turn i s v f p q = rw (add-one, sumBelow-suc i f, p, q)
+
+-- one turn of a loop that counts
+pub countBelow-turn : (i s v : ℕ) (f : ℕ → Bool) → s ≡ countBelow i f → v ≡ one? (f i) → s + v ≡ countBelow (i + 1) f
+unfolding countBelow
+countBelow-turn i s v f p q = sumBelow-turn i s v (λ k. one? (f k)) p q
+
+-- x of the summand at j lies below the whole sum
+pub sumBelow-lt : (n : ℕ) (f : ℕ → ℕ) (j x : ℕ) → j < n → x < f j → sumBelow j f + x < sumBelow n f
+unfolding sumBelow
+sumBelow-lt zero f j x h l = absurd (not-suc-le-zero h)
+sumBelow-lt (suc n) f zero x h l = omega arith
+sumBelow-lt (suc n) f (suc j) x h l = omega (arith, sumBelow-lt n (λ i. f (suc i)) j x (le-of-suc-le-suc h) l)

@@ -4,9 +4,10 @@
 --           allBelow n f      whether every i below n passes f
 --           firstBelow n f    the first i below n that passes f, if there is one
 --           listBelow n f     f 0, .., f (n - 1)
+--           rowsBelow n f     the lists f 0, .., f (n - 1), end to end
 -- Laws: proofs/Sums.antt, Tests.antt, Lists.antt.  Assumes nothing: these are definitions.
 use mathlib.Core.Bool.{Bool, true, false, _&&_}
-use mathlib.Core.List.{List, [], _∷_}
+use mathlib.Core.List.{List, [], _∷_, _++_}
 use mathlib.Core.Option.{Option, none, some}
 use Prim.Native.Nat.{ℕ, zero, suc, _+_}
 
@@ -39,3 +40,7 @@ firstBelow (suc n) f = zeroOr (f zero) (firstBelow n (λ i. f (suc i)))
 unfoldable pub listBelow : {A : Type 0} → ℕ → (ℕ → A) → List A
 listBelow zero f = []
 listBelow (suc n) f = f zero ∷ listBelow n (λ i. f (suc i))
+
+unfoldable pub rowsBelow : {A : Type 0} → ℕ → (ℕ → List A) → List A
+rowsBelow zero f = []
+rowsBelow (suc n) f = f zero ++ rowsBelow n (λ i. f (suc i))

@@ -1,16 +1,17 @@
 -- Bounds that a shape in range gives, so that no sum or shift of the code wraps.
--- In order: the ranges of h and m; w; the bits of a message number; the limit of a message number.  Assumes nothing.
-use mathlib.Core.Path.{_≡_, refl, sym, _∙_}
-use mathlib.Core.Bool.{Bool, true, false, not, cond, _&&_}
+-- In order: the ranges of h and m; w; the bits of a message number; powers; the limit of a message number.  Assumes nothing.
+use mathlib.Core.Path.{_≡_, refl, sym, _∙_, ap, subst}
+use mathlib.Core.Bool.{Bool, true, false, not, cond, _&&_, Bool·not-not}
 use mathlib.Core.List.{List, [], _∷_}
 use Prim.Native.Nat.{ℕ, zero, suc, _+_, _-_, _*_, _^_, _≤_, _<_, zero-le}
 use native.Mathlib.Nat.{mul-le-mul}
 use native.Mathlib.Omega.{arith}
-use lib.Dec.{leb, ltb, lit≤}
+use lib.Dec.{T, leb, ltb, lit≤}
 use lib.ListN.{getD}
-use borrow.Author.Tests.{leb-true, leb-false, le-leb, lt-leb, le-ltb, lt-ltb}
-use Rattle.range.proofs.Tests.{and-left, and-right}
-use Rattle.rules.specs.Shape.{greatestH, greatestM, pathBits, inH, inM, inShape, messageBits}
+use lib.Pow.{pow-mono}
+use borrow.Author.Tests.{leb-true, leb-false, le-leb, le-ltb, lt-ltb}
+use Rattle.range.proofs.Tests.{and-left, and-right, and-of}
+use Rattle.rules.specs.Shape.{greatestH, greatestM, pathBits, inH, inM, inShape, phases, carriers, pathsInUse, messageBits}
 use Rattle.rules.specs.Refusal.{badMessage}
 
 pub record InRange (h m : ℕ) : Type 0 where
@@ -30,6 +31,10 @@ inShape-range h m e =
       m-most = leb-true m greatestM (and-right (leb 2 m) (leb m greatestM) b);
     }
 
+pub range-inM : (h m : ℕ) → InRange h m → T (inM m)
+range-inM h m r =
+    subst T (sym (and-of (leb 2 m) (leb m greatestM) (le-leb 2 m (r .m-least)) (le-leb m greatestM (r .m-most)))) tt
+
 -- no entry of the table is above 5
 entry-le : (i : ℕ) → getD (0 ∷ 1 ∷ 3 ∷ 5 ∷ []) i 0 ≤ 5
 entry-le zero = lit≤ tt
@@ -48,6 +53,22 @@ coefficientBits-le h m r = mul-le-mul {n₁ = h} {m₁ = m + 1} {n₂ = greatest
 pub messageBits-le : (h m : ℕ) → InRange h m → messageBits h m ≤ 23
 messageBits-le h m r = omega (arith, pathBits-le m, coefficientBits-le h m r)
 
+-- what `power` gives below 64
+pub power-is : (e : ℕ) → e < 64 → cond (ltb e 64) (2 ^ e) 0 ≡ 2 ^ e
+power-is e h = rw (lt-ltb e 64 h)
+
+pub phases-least : (h m : ℕ) → InRange h m → 2 ≤ phases h
+phases-least h m r = pow-mono {i = 1} {j = h} (r .h-least)
+
+pub phases-most : (h m : ℕ) → InRange h m → phases h ≤ phases greatestH
+phases-most h m r = pow-mono (r .h-most)
+
+pub carriers-most : (h m : ℕ) → InRange h m → carriers m ≤ carriers greatestM
+carriers-most h m r = pow-mono (r .m-most)
+
+pub pathsInUse-most : (m : ℕ) → pathsInUse m ≤ 32
+pathsInUse-most m = pow-mono {i = pathBits m} {j = 5} (pathBits-le m)
+
 -- below is not at least
 pub ltb-not-leb : (a b : ℕ) → ltb a b ≡ not (leb b a)
 ltb-not-leb a b = go (leb b a) refl
@@ -62,3 +83,8 @@ pub takes-test : (h m g : ℕ) → inShape h m ≡ true →
 takes-test h m g e =
     let b : messageBits h m < 64 = omega (arith, messageBits-le h m (inShape-range h m e)) in
     rw (e, lt-ltb (messageBits h m) 64 b) (ltb-not-leb g (2 ^ messageBits h m))
+
+-- what `takes` says of a message number, where the shape is in range
+pub takes-tells : (h m g : ℕ) (b : Bool) → inShape h m ≡ true → b ≡ (inShape h m && not (badMessage h m g)) →
+    badMessage h m g ≡ not b
+takes-tells h m g b e q = sym (Bool·not-not (badMessage h m g)) ∙ ap not (sym (rw e at q))

@@ -7,13 +7,12 @@ use kinds::Search;
 ghost use mathlib.Core.Path.{_≡_};
 ghost use mathlib.Core.Bool.{not, cond, _&&_};
 ghost use Prim.Native.Nat.{_^_};
-ghost use lib.Dec.{leb, ltb};
-ghost use lib.ListN.{length};
-ghost use Rattle.range.specs.Below.{firstBelow};
+ghost use lib.Dec.{ltb};
 ghost use Rattle.rules.specs.Shape.{pathBits, inShape};
 ghost use Rattle.rules.specs.Label.{labelOf, messageOf};
-ghost use Rattle.rules.specs.Refusal.{at, badMessage};
+ghost use Rattle.rules.specs.Refusal.{badMessage};
 ghost use Rattle.kinds.specs.Told.{searchTold};
+ghost use Rattle.shape.specs.Symbols.{firstBad};
 
 const GREATEST_H: u32 = 3;
 
@@ -85,7 +84,7 @@ pub fn message_of(h: u32, m: u32, label: u64) -> MessageNumber
 
 // The first symbol of a word that is q or more.
 pub fn first_bad(q: u64, word: &[u8]) -> Search
-    ensures { λ r. ⌜ searchTold r ≡ firstBelow (length (now (word .entry))) (λ i. leb q (at (now (word .entry)) i)) ⌝ }
+    ensures { λ r. ⌜ searchTold r ≡ firstBad q (now (word .entry)) ⌝ }
 {
     let mut i = 0;
     while i < word.len() {

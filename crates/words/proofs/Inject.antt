@@ -1,31 +1,32 @@
 -- The law that the word determines its label: 001 Corollary 4, 01 "What a logger may send". In order: sums modulo q
 -- with an equal summand; multiples of half the phases; the links at the place with two digits; what two labels with the
 -- same word share, part by part; the law for labels, and for messages.
--- Not here: what a word shows at single places (Readings).  Two facts about paths are parameters: every path in use is
--- good, and its links at the pairs, modulo 2, determine it.  Assumes nothing else.
+-- Not here: what a word shows at single places (Readings), what is known of the paths in use (Used).  Assumes nothing.
 use mathlib.Core.Path.{_≡_, refl, sym, _∙_, ap, ap₂}
-use mathlib.Core.Bool.{Bool, true, false, _||_, false≢true}
-use mathlib.Core.Logic.{_≢_}
+use mathlib.Core.Bool.{Bool, true, false, _||_}
 use mathlib.Core.List.{List}
 use Prim.Native.Nat.{ℕ, suc, _+_, _-_, _*_, _/_, _%_, _^_, _≤_, _<_, zero-le, suc-le-suc}
 use native.Mathlib.Nat.{add-assoc, mod-add-mod, add-mul-mod-self-right, div-add-mod', suc-mul, mod-lt, mul-div-cancel}
 use native.Mathlib.Nat.{mul-mod-left, mul-comm, pow-succ', eq-of-mul-eq-mul-right, add-zero}
 use native.Mathlib.Omega.{arith}
 use lib.Arith.{mod-mul}
-use lib.Dec.{T, eqb, eqb→eq, eqb-refl}
+use lib.Dec.{T, eqb}
 use lib.ListN.{getD}
 use lib.Pow.{pow-pos}
+use borrow.Author.Tests.{eqb-true, eqb-false}
 use Rattle.range.specs.Below.{one?}
 use Rattle.range.proofs.Sums.{sumBelow-cong}
-use Rattle.rules.specs.Shape.{phases, half, carriers, pathsInUse, messageBits}
+use Rattle.rules.specs.Shape.{phases, half, carriers, messageBits, inM}
 use Rattle.rules.specs.Place.{digit}
 use Rattle.rules.specs.Path.{pathAt}
 use Rattle.rules.specs.Label.{labels, labelPath, coefficient, constant, labelOf, messageOf}
 use Rattle.rules.specs.Word.{links, formAt, wordAt, wordOf}
 use Rattle.rules.specs.Pair.{minus}
+use Rattle.paths.proofs.Pairs.{onPair}
 use Rattle.words.proofs.Digits.{one-lt, twoAt, digit-two-lt, digit-two-first, digit-two-second, digit-two-off}
 use Rattle.words.proofs.Labels.{label-inj, labelPath-lt, messageOf-labelOf, labelOf-lt}
 use Rattle.words.proofs.Forms.{wordOf-at}
+use Rattle.words.proofs.Used.{used-good, used-inj}
 use Rattle.words.proofs.Readings.{Good, links-cong, linear, wordAt-zero, coefficient-read}
 
 -- s and what completes it to a multiple of q
@@ -57,21 +58,9 @@ half-parity : (h x y : ℕ) → 1 ≤ h → half h * x % phases h ≡ half h * y
 half-parity h x y b e =
     eq-of-mul-eq-mul-right (half h) (pow-pos (h - 1)) (x % 2) (y % 2) (sym (half-mod h x b) ∙ e ∙ half-mod h y b)
 
--- 1 on a and b, and 0 elsewhere
-abbrev pub onPair : ℕ → ℕ → ℕ → ℕ
-onPair a b k = one? (eqb k a || eqb k b)
-
-eqb-true : (j a : ℕ) → eqb j a ≡ true → j ≡ a
-eqb-true j a e = eqb→eq j a (rw e tt)
-
-of-T : (b : Bool) → T b → b ≡ true
-of-T true t = refl
-
-eqb-false : (j a : ℕ) → eqb j a ≡ false → j ≢ a
-eqb-false j a e p = false≢true (sym e ∙ rw p (of-T (eqb a a) (eqb-refl a)))
-
 module _ (m a b : ℕ) (la : 1 ≤ a) (lb : a < b) (lm : b ≤ m) where
   digit-onPair : (j : ℕ) → j ≤ m → digit m (twoAt m a b) j ≡ onPair a b j
+  unfolding onPair
   digit-onPair j l = at (eqb j a) (eqb j b) refl refl
     where
       at : (s t : Bool) → eqb j a ≡ s → eqb j b ≡ t → digit m (twoAt m a b) j ≡ one? (s || t)
@@ -91,17 +80,14 @@ wordAt-parts : (h m l i : ℕ) → wordAt h m l i ≡ (half h * linked h m l i +
 unfolding wordAt formAt
 wordAt-parts h m l i = rw add-assoc
 
-module _ (m : ℕ) (good : (n : ℕ) → n < pathsInUse m → Good m (pathAt m n))
-    (links-inj : (n k : ℕ) → n < pathsInUse m → k < pathsInUse m →
-    ((a b : ℕ) → 1 ≤ a → a < b → b ≤ m → links (onPair a b) (pathAt m n) % 2 ≡ links (onPair a b) (pathAt m k) % 2) →
-    n ≡ k) where
+module _ (m : ℕ) (range : T (inM m)) where
   module _ (h l k : ℕ) (pos : 1 ≤ h) (ll : l < labels h m) (lk : k < labels h m)
       (same : (i : ℕ) → i < carriers m → wordAt h m l i ≡ wordAt h m k i) where
     same-constant : constant h l ≡ constant h k
     same-constant = sym (wordAt-zero h m l) ∙ same 0 (pow-pos m) ∙ wordAt-zero h m k
 
     good-label : (n : ℕ) → n < labels h m → Good m (pathAt m (labelPath h m n))
-    good-label n b = good (labelPath h m n) (labelPath-lt h m n b)
+    good-label n b = used-good m (labelPath h m n) range (labelPath-lt h m n b)
 
     same-coefficient : (j : ℕ) → 1 ≤ j → j ≤ m → coefficient h m l j ≡ coefficient h m k j
     same-coefficient j a b =
@@ -128,7 +114,7 @@ module _ (m : ℕ) (good : (n : ℕ) → n < pathsInUse m → Good m (pathAt m n
         ∙ ap (λ (n : ℕ). n % 2) (links-onPair m a b p q r (pathAt m (labelPath h m k)) (good-label k lk))
 
     same-path : labelPath h m l ≡ labelPath h m k
-    same-path = links-inj _ _ (labelPath-lt h m l ll) (labelPath-lt h m k lk) same-links
+    same-path = used-inj m _ _ range (labelPath-lt h m l ll) (labelPath-lt h m k lk) same-links
 
   pub wordAt-inj : (h l k : ℕ) → 1 ≤ h → l < labels h m → k < labels h m →
       ((i : ℕ) → i < carriers m → wordAt h m l i ≡ wordAt h m k i) → l ≡ k

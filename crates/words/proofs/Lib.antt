@@ -4,4 +4,5 @@ pub mod Labels
 pub mod Order
 pub mod Forms
 pub mod Readings
+pub mod Used
 pub mod Inject

@@ -1,0 +1,41 @@
+-- Bounds on what the encoder adds up, so that no sum of the code wraps.
+-- In order: one term of the sum over rows, the sum; one link, the sum over links; the row of the first step.  Assumes nothing.
+use mathlib.Core.List.{List}
+use Prim.Native.Nat.{ℕ, _+_, _-_, _*_, _≤_, _<_}
+use native.Mathlib.Nat.{mul-le-mul, le-refl}
+use native.Mathlib.Omega.{arith}
+use lib.ListN.{getD}
+use Rattle.range.specs.Below.{sumBelow}
+use Rattle.range.proofs.Sums.{sumBelow-le}
+use Rattle.encoder.specs.Steps.{cell, linearOf, linksOf, Cells, Small, Walk}
+
+module _ (m : ℕ) (g : List (List ℕ)) (cells : Cells m g) (i : ℕ) (inside : i < 32) where
+  module _ (c : List ℕ) (small : Small m c) where
+    pub term-le : (r : ℕ) → r ≤ m → getD c r 0 * cell g r i ≤ 7
+    term-le r h =
+        mul-le-mul {n₁ = getD c r 0} {m₁ = cell g r i} {n₂ = 7} {m₂ = 1} (small .small r h) (cells .cells r i h inside)
+
+    pub terms-le : (r : ℕ) → r ≤ m + 1 → sumBelow r (λ k. getD c k 0 * cell g k i) ≤ r * 7
+    terms-le r h = sumBelow-le r 7 (λ k. getD c k 0 * cell g k i) (λ k l. term-le k (omega arith))
+
+    pub linearOf-le : linearOf g c m i ≤ 42
+    unfolding linearOf
+    linearOf-le = omega (arith, terms-le (m + 1) (le-refl (m + 1)), cells .most)
+
+  module _ (p : List ℕ) (walk : Walk m p) where
+    pub link-le : (k : ℕ) → k < m - 1 → cell g (getD p k 0) i * cell g (getD p (k + 1) 0) i ≤ 1
+    link-le k h =
+        mul-le-mul {n₁ = cell g (getD p k 0) i} {m₁ = cell g (getD p (k + 1) 0) i} {n₂ = 1} {m₂ = 1}
+        (cells .cells (getD p k 0) i (walk .steps k (omega arith)) inside)
+        (cells .cells (getD p (k + 1) 0) i (walk .steps (k + 1) (omega arith)) inside)
+
+    pub linkSum-le : (n : ℕ) → n ≤ m - 1 → sumBelow n (λ k. cell g (getD p k 0) i * cell g (getD p (k + 1) 0) i) ≤ n * 1
+    linkSum-le n h =
+        sumBelow-le n 1 (λ k. cell g (getD p k 0) i * cell g (getD p (k + 1) 0) i) (λ k l. link-le k (omega arith))
+
+    pub linksOf-le : linksOf g p m i ≤ 4
+    unfolding linksOf
+    linksOf-le = omega (arith, linkSum-le (m - 1) (le-refl (m - 1)), cells .most)
+
+    pub first-le : cell g (getD p 0 0) i ≤ 1
+    first-le = cells .cells (getD p 0 0) i (walk .steps 0 (omega (arith, walk .least))) inside

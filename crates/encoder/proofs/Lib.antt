@@ -1,0 +1,7 @@
+-- Laws of the encoder's steps.
+pub mod Bounds
+pub mod PathTable
+pub mod Matrix
+pub mod Divide
+pub mod Formula
+pub mod SentLaws

@@ -1,0 +1,43 @@
+-- The table of the paths in use: rows of pathRow for m = 2, 3, .., end to end, and where each m begins.
+-- That the code's constants are these is computed where the code reads them (path_row).
+-- In order: the table and the starts; a place of the table lies inside; what stands there.  Assumes nothing.
+use mathlib.Core.Path.{_≡_, refl, sym, _∙_, ap}
+use mathlib.Core.List.{List, []}
+use Prim.Native.Nat.{ℕ, _+_, _-_, _≤_, _<_}
+use native.Mathlib.Omega.{arith}
+use lib.ListN.{length, getD}
+use Rattle.range.specs.Below.{sumBelow, listBelow, rowsBelow}
+use Rattle.range.proofs.Sums.{sumBelow-lt}
+use Rattle.range.proofs.Lists.{length-listBelow, listBelow-at, rowsBelow-at}
+use Rattle.rules.specs.Shape.{greatestM, pathsInUse}
+use Rattle.encoder.specs.Steps.{pathRow}
+
+-- the numbers m from 2 on, counted from 0
+abbrev inUseFrom2 : ℕ → ℕ
+inUseFrom2 j = pathsInUse (j + 2)
+
+unfoldable pub table : List (List ℕ)
+table = rowsBelow (greatestM - 1) (λ j. listBelow (inUseFrom2 j) (pathRow (j + 2)))
+
+unfoldable pub starts : List ℕ
+starts = listBelow (greatestM - 1) (λ j. sumBelow j inUseFrom2)
+
+module _ (m n : ℕ) (least : 2 ≤ m) (most : m ≤ greatestM) (used : n < pathsInUse m) where
+  back : m - 2 + 2 ≡ m
+  back = omega arith
+
+  starts-at : getD starts (m - 2) 0 ≡ sumBelow (m - 2) inUseFrom2
+  unfolding starts
+  starts-at = listBelow-at (greatestM - 1) (λ j. sumBelow j inUseFrom2) (m - 2) 0 (omega arith)
+
+  pub start-lt : getD starts (m - 2) 0 + n < sumBelow (greatestM - 1) inUseFrom2
+  start-lt = rw starts-at (sumBelow-lt (greatestM - 1) inUseFrom2 (m - 2) n (omega arith) (rw back used))
+
+  pub table-at : getD table (getD starts (m - 2) 0 + n) [] ≡ pathRow m n
+  unfolding table
+  table-at =
+      rw starts-at
+      (rowsBelow-at (greatestM - 1) (λ j. listBelow (inUseFrom2 j) (pathRow (j + 2))) inUseFrom2
+      (λ j. length-listBelow (inUseFrom2 j) (pathRow (j + 2))) (m - 2) n [] (omega arith) (rw back used)
+      ∙ listBelow-at (inUseFrom2 (m - 2)) (pathRow (m - 2 + 2)) n [] (rw back used)
+      ∙ ap (λ (k : ℕ). pathRow k n) back)

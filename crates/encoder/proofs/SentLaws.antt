@@ -1,0 +1,59 @@
+-- Laws of the promise of encode and partner.
+-- In order: the outcome, refusal by refusal; the promise of a refusal and of a word written; only one outcome satisfies it.
+-- Assumes nothing.
+use mathlib.Core.Path.{_≡_, refl, sym, _∙_, ap, subst}
+use mathlib.Core.Bool.{Bool, true, false, not}
+use mathlib.Core.List.{List, []}
+use Prim.Native.Nat.{ℕ}
+use lib.ListN.{length}
+use borrow.Author.Tests.{eq-eqb, ne-eqb}
+use Rattle.rules.specs.Shape.{inShape, carriers}
+use Rattle.rules.specs.Refusal.{Outcome, gives, refuses, allowed, badMessage, sendOutcome}
+use Rattle.kinds.proofs.ToldLaws.{refusalTold-inj, gives-not-refuses}
+use Rattle.encoder.specs.declared.Written.{Written}
+use Rattle.encoder.specs.declared.Written.the-variants.{Done, Refused}
+use Rattle.encoder.specs.Sent.{writtenTold, written, Sent}
+
+module _ (h m n g : ℕ) where
+  pub send-shape : inShape h m ≡ false → sendOutcome h m n g ≡ refuses 1 []
+  unfolding sendOutcome
+  send-shape e = rw e
+
+  pub send-length : inShape h m ≡ true → (n ≡ carriers m → ⊥) → sendOutcome h m n g ≡ refuses 2 []
+  unfolding sendOutcome
+  send-length e q = rw (e, ne-eqb n (carriers m) q)
+
+  pub send-message : inShape h m ≡ true → n ≡ carriers m → badMessage h m g ≡ true → sendOutcome h m n g ≡ refuses 4 []
+  unfolding sendOutcome
+  send-message e q b = rw (e, eq-eqb n (carriers m) q, b)
+
+  pub send-allowed : inShape h m ≡ true → n ≡ carriers m → badMessage h m g ≡ false → sendOutcome h m n g ≡ allowed
+  unfolding sendOutcome
+  send-allowed e q b = rw (e, eq-eqb n (carriers m) q, b)
+
+module _ (h m g : ℕ) (word before : List ℕ) where
+  pub sent-refused : (r : Written) (k : ℕ) (v : List ℕ) → sendOutcome h m (length before) g ≡ refuses k v →
+      writtenTold r ≡ refuses k v → Sent h m g word before r before
+  sent-refused r k v e t = record { told = t ∙ sym e; slice = ap (λ (o : Outcome (Unit {0})). written o before word) (sym e) }
+
+  pub sent-done : (after : List ℕ) → sendOutcome h m (length before) g ≡ allowed → after ≡ word →
+      Sent h m g word before Done after
+  sent-done after e q = record { told = sym e; slice = q ∙ ap (λ (o : Outcome (Unit {0})). written o before word) (sym e) }
+
+-- the word may be said in another way
+pub sent-cong : {h m g : ℕ} {word word′ before : List ℕ} {r : Written} {after : List ℕ} → word ≡ word′ →
+    Sent h m g word before r after → Sent h m g word′ before r after
+sent-cong {h} {m} {g} {before = before} {r = r} {after = after} e s = subst (λ (w : List ℕ). Sent h m g w before r after) e s
+
+-- an answer is read back from what it tells
+writtenTold-inj : (r s : Written) → writtenTold r ≡ writtenTold s → r ≡ s
+writtenTold-inj Done Done e = refl
+writtenTold-inj Done (Refused s) e = absurd (gives-not-refuses e)
+writtenTold-inj (Refused r) Done e = absurd (gives-not-refuses (sym e))
+writtenTold-inj (Refused r) (Refused s) e = ap Refused (refusalTold-inj r s e)
+
+-- only one outcome, answer and slice, satisfies the promise
+pub sent-unique : (h m g : ℕ) (word before : List ℕ) (r s : Written) (after after′ : List ℕ) →
+    Sent h m g word before r after → Sent h m g word before s after′ → (r ≡ s) × (after ≡ after′)
+sent-unique h m g word before r s after after′ p q =
+    (writtenTold-inj r s (p .told ∙ sym (q .told)), p .slice ∙ sym (q .slice))

@@ -1,0 +1,67 @@
+-- `encoder::combine` meets its contract: place after place it writes the symbol.
+-- Invariant: the first i places hold their symbols, the others are as they were. Measure: the places left.  Assumes nothing.
+use mathlib.Core.Path.{_≡_, refl, sym, _∙_}
+use Prim.Native.Nat.{ℕ, _-_, _≤_}
+use native.Mathlib.Omega.{arith}
+use lib.ListN.{length, length-set}
+use borrow.Author.Needs.{needs}
+use Rattle.range.proofs.Lists.{filled, filled-zero, filled-turn, filled-end}
+use Rattle.encoder.specs.Steps.{symbolOf}
+use Rattle.encoder.proofs.combine.Statement.{statement}
+use Rattle.encoder.proofs.combine.Tie as tie
+use Rattle.encoder.proofs.combine.Reads as reads
+use Rattle.encoder.proofs.combine.Lts as lts
+
+abbrev Inv-loop : tie.InvT-loop
+Inv-loop g p c m q s out₀ i₀ out i =
+    (i ≤ length out₀) × (length out ≡ length out₀) × (out ≡ filled i (symbolOf g p c m q s) out₀)
+
+abbrev μ-loop : tie.MeasureT-loop
+μ-loop g p c m q s out₀ i₀ out i = length out₀ - i
+
+loop-holds : tie.Need-loop-holds Inv-loop μ-loop
+loop-holds c = (omega arith, refl, filled-zero _ _)
+
+symbol-requires : tie.Need-symbol-requires Inv-loop μ-loop
+symbol-requires c κs =
+    let pre = c .before .before .before .pre in (
+      pre .0,
+      (
+        pre .1 .0,
+        (
+          pre .1 .1 .0,
+          (pre .1 .1 .1 .0, pre .1 .1 .1 .1, pre .1 .1 .1 .2, omega (arith, pre .1 .1 .1 .3, c .loop-test .taken, c .before .loop .inv .1)),
+        ),
+      ),
+    )
+
+slice-write-out : tie.Need-slice-write-out Inv-loop μ-loop
+slice-write-out c = search needs
+
+add-i : tie.Need-add-i Inv-loop μ-loop
+add-i c = search needs
+
+loop-less : tie.Need-loop-less Inv-loop μ-loop
+loop-less c = omega (arith, c .before .loop-test .taken, c .before .before .loop .inv .1)
+
+loop-again : tie.Need-loop-again Inv-loop μ-loop
+loop-again c =
+    let at-loop = c .before .before .loop in (
+      omega (arith, c .before .loop-test .taken, at-loop .inv .1),
+      simp length-set (at-loop .inv .1),
+      filled-turn (at-loop .i) _ _ (at-loop .out) _ (omega (arith, c .before .loop-test .taken, at-loop .inv .1)) (at-loop .inv .2)
+          (c .symbol .ensures),
+    )
+
+same-length : tie.Need-same-length Inv-loop μ-loop
+same-length c = search needs
+
+returns : tie.Need-returns Inv-loop μ-loop
+returns c =
+    let at-loop = c .before .loop in
+    filled-end _ (at-loop .i) _ _ (at-loop .out) refl (omega (arith, at-loop .inv .0, at-loop .inv .1, c .loop-test .left)) (at-loop .inv .2)
+
+pub combine-spec : {M : Type 1} → statement M
+combine-spec =
+    tie.close
+    (tie.spec Inv-loop μ-loop loop-holds symbol-requires slice-write-out add-i loop-less loop-again same-length returns)

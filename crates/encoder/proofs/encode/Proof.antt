@@ -1,0 +1,21 @@
+-- `encoder::encode` meets its contract: a lift of nothing leaves the word.
+-- Assumes nothing.
+use borrow.Author.Needs.{needs}
+use Rattle.encoder.proofs.Formula.{lifted-word}
+use Rattle.encoder.proofs.SentLaws.{sent-cong}
+use Rattle.encoder.proofs.encode.Statement.{statement}
+use Rattle.encoder.proofs.encode.Tie as tie
+
+send-requires : tie.Need-send-requires
+send-requires c κs = search needs
+
+same-length : tie.Need-same-length
+same-length c = search needs
+
+returns : tie.Need-returns
+returns c =
+    let args = c .before .before .before .before .before .args in
+    sent-cong (lifted-word (args .h) (args .m) (args .message .0)) (c .before .before .send .ensures)
+
+pub encode-spec : {M : Type 1} → statement M
+encode-spec = tie.close (tie.spec send-requires same-length returns)

@@ -1,0 +1,72 @@
+-- `encoder::generator` meets its contract: it starts with rows of ones, and each turn puts the digits into one row.
+-- Invariant: the rows before r are the generator's. Measure: the rows left.  Assumes nothing.
+use mathlib.Core.Path.{_≡_, refl, sym, _∙_}
+use mathlib.Core.List.{List}
+use Prim.Native.Nat.{ℕ, _-_, _≤_}
+use native.Mathlib.Omega.{arith}
+use lib.Dec.{lit≤}
+use lib.ListN.{replicate}
+use borrow.Author.Needs.{needs}
+use Rattle.range.specs.Below.{listBelow}
+use Rattle.range.proofs.Lists.{filled, filled-turn, filled-end}
+use Rattle.rules.specs.Place.{generatorAt}
+use Rattle.encoder.specs.Steps.{generatorRows}
+use Rattle.encoder.proofs.Matrix.{generator-row}
+use Rattle.encoder.proofs.generator.Statement.{statement}
+use Rattle.encoder.proofs.generator.Tie as tie
+use Rattle.encoder.proofs.generator.Reads as reads
+use Rattle.encoder.proofs.generator.Lts as lts
+
+-- row r of the generator, and the rows of ones that it starts with
+abbrev row : ℕ → ℕ → List ℕ
+row m r = listBelow 32 (generatorAt m r)
+
+abbrev ones : List (List ℕ)
+ones = replicate 6 (replicate 32 1)
+
+abbrev Inv-loop : tie.InvT-loop
+Inv-loop m g₀ r₀ g r = (1 ≤ r) × (r ≤ 6) × (g ≡ filled r (row m) ones)
+
+abbrev μ-loop : tie.MeasureT-loop
+μ-loop m g₀ r₀ g r = 6 - r
+
+digits-requires : tie.Need-digits-requires Inv-loop μ-loop
+digits-requires c κs = search needs
+
+loop-holds : tie.Need-loop-holds Inv-loop μ-loop
+unfolding listBelow generatorAt
+loop-holds c = (lit≤ tt, lit≤ tt, refl)
+
+mul-g : tie.Need-mul-g Inv-loop μ-loop
+mul-g c = search needs
+
+array-set-from-g : tie.Need-array-set-from-g Inv-loop μ-loop
+array-set-from-g c = search needs
+
+add-r : tie.Need-add-r Inv-loop μ-loop
+add-r c = search needs
+
+loop-less : tie.Need-loop-less Inv-loop μ-loop
+loop-less c = search needs
+
+loop-again : tie.Need-loop-again Inv-loop μ-loop
+loop-again c =
+    let at-loop = c .before .before .loop in
+    let m = c .before .before .before .args .m in (
+      search needs,
+      search needs,
+      filled-turn (at-loop .r) (row m) ones (at-loop .g) _ (c .before .loop-test .taken) (at-loop .inv .2)
+          (c .digits .ensures ∙ generator-row m (at-loop .r) 32 (at-loop .inv .0)),
+    )
+
+returns : tie.Need-returns Inv-loop μ-loop
+unfolding generatorRows
+returns c =
+    let at-loop = c .before .loop in
+    filled-end 6 (at-loop .r) (row (c .before .before .args .m)) ones (at-loop .g) refl
+    (omega (arith, at-loop .inv .1, c .loop-test .left)) (at-loop .inv .2)
+
+pub generator-spec : {M : Type 1} → statement M
+generator-spec =
+    tie.close
+    (tie.spec Inv-loop μ-loop loop-holds digits-requires mul-g array-set-from-g add-r loop-less loop-again returns)

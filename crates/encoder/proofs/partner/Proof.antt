@@ -1,0 +1,21 @@
+-- `encoder::partner` meets its contract: the lift of the first step by half the phases is the partner.
+-- Assumes nothing.
+use borrow.Author.Needs.{needs}
+use Rattle.encoder.proofs.Formula.{lifted-partner}
+use Rattle.encoder.proofs.SentLaws.{sent-cong}
+use Rattle.encoder.proofs.partner.Statement.{statement}
+use Rattle.encoder.proofs.partner.Tie as tie
+
+send-requires : tie.Need-send-requires
+send-requires c κs = search needs
+
+same-length : tie.Need-same-length
+same-length c = search needs
+
+returns : tie.Need-returns
+returns c =
+    let args = c .before .before .before .before .before .args in
+    sent-cong (lifted-partner (args .h) (args .m) (args .message .0)) (c .before .before .send .ensures)
+
+pub partner-spec : {M : Type 1} → statement M
+partner-spec = tie.close (tie.spec send-requires same-length returns)

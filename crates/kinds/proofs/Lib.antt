@@ -1,0 +1,2 @@
+-- Laws of what answers say.
+pub mod ToldLaws

@@ -1,0 +1,118 @@
+-- Laws of the pair check. In order: the code's counts are the definition's, for it takes each phase modulo 2^h;
+-- a pair is one whose counts agree; no word is a pair with itself.
+-- Not here: the counts of the code (Tallies).  Assumes nothing.
+use mathlib.Core.Path.{_≡_, refl, sym, ap}
+use mathlib.Core.Bool.{Bool, true, false}
+use mathlib.Core.List.{List}
+use mathlib.Core.Logic.{_↔_}
+use Prim.Native.Nat.{ℕ, zero, suc, _+_, _-_, _*_, _/_, _%_, _≤_, _<_}
+use native.Mathlib.Nat.{mod-eq-of-lt, mod-lt, pow-suc, mod-eq-sub-mod}
+use native.Mathlib.Omega.{arith}
+use lib.Dec.{leb, eqb}
+use lib.ListN.{length}
+use lib.Pow.{pow-pos, pow-mono}
+use borrow.Author.Tests.{leb-true, leb-false, eq-eqb, eqb-true, ne-eqb}
+use Rattle.range.specs.Below.{sumBelow, countBelow, allBelow, one?}
+use Rattle.range.proofs.Tests.{allBelow-of, allBelow-at, allBelow-not, allBelow-cong}
+use Rattle.rules.specs.Shape.{phases, half, carriers}
+use Rattle.rules.specs.Pair.{minus, phaseCount, pairCount, golayPair}
+use Rattle.rules.specs.Refusal.{at}
+use Rattle.pair.specs.Tally.{tallyBefore, tally, tallies, agreesAt, balancedAt, balanced}
+use Rattle.range.proofs.FromOne.{fromOne-of, fromOne-at, fromOne-not}
+
+pub phases-double : (h : ℕ) → 1 ≤ h → phases h ≡ half h * 2
+phases-double zero l = absurd (omega (arith, l))
+phases-double (suc h) l = let e : suc h - 1 ≡ h = omega arith in rw e (pow-suc 2 h)
+
+pub pairCount-tallies : (h n : ℕ) (a b : List ℕ) (u k : ℕ) → length a ≡ n → length b ≡ n →
+    pairCount h n (at a) (at b) u k ≡ tallies (phases h) a b u (k % phases h)
+unfolding pairCount phaseCount tallies tally tallyBefore
+pairCount-tallies h n a b u k p r = rw (p, r)
+
+pub agreesAt-phases : (h n : ℕ) (a b : List ℕ) (u k : ℕ) → 1 ≤ h → length a ≡ n → length b ≡ n → k < phases h →
+    eqb (pairCount h n (at a) (at b) u k) (pairCount h n (at a) (at b) u (k + half h)) ≡ agreesAt (phases h) a b u k
+unfolding agreesAt
+agreesAt-phases h n a b u k l p r s =
+    let e : half h ≡ phases h / 2 = omega (arith, phases-double h l) in
+    rw (pairCount-tallies h n a b u k p r, pairCount-tallies h n a b u (k + half h) p r, mod-eq-of-lt s, e)
+
+pub golayPair-balanced : (h m : ℕ) (a b : List ℕ) → 1 ≤ h → length a ≡ carriers m → length b ≡ carriers m →
+    golayPair h m (at a) (at b) ≡ balanced (phases h) a b
+unfolding golayPair balanced balancedAt
+golayPair-balanced h m a b l p r =
+    rw p
+    (allBelow-cong _ _ _ (λ u _. allBelow-cong _ _ _ (λ k s. agreesAt-phases h (carriers m) a b (suc u) k l p r s)))
+
+-- the two counts of a phase, compared
+abbrev agrees : ℕ → ℕ → (ℕ → ℕ) → (ℕ → ℕ) → ℕ → ℕ → Bool
+agrees h m a b u k = eqb (pairCount h (carriers m) a b u k) (pairCount h (carriers m) a b u (k + half h))
+
+-- the counts agree at each shift from 1 to N - 1 and each phase
+abbrev pub CountsAgree : ℕ → ℕ → (ℕ → ℕ) → (ℕ → ℕ) → Type 0
+CountsAgree h m a b =
+    (u : ℕ) → 1 ≤ u → u < carriers m → (k : ℕ) → k < phases h →
+    pairCount h (carriers m) a b u k ≡ pairCount h (carriers m) a b u (k + half h)
+
+pub golayPair-at : (h m : ℕ) (a b : ℕ → ℕ) → golayPair h m a b ≡ true → CountsAgree h m a b
+unfolding golayPair
+golayPair-at h m a b e u l s k r =
+    let each = fromOne-at (carriers m) (λ v. allBelow (phases h) (agrees h m a b v)) e u s l in
+    eqb-true _ _ (allBelow-at (phases h) (agrees h m a b u) each k r)
+
+pub golayPair-of : (h m : ℕ) (a b : ℕ → ℕ) → CountsAgree h m a b → golayPair h m a b ≡ true
+unfolding golayPair
+golayPair-of h m a b e =
+    fromOne-of (carriers m) (λ u. allBelow (phases h) (agrees h m a b u))
+    (λ u s l. allBelow-of (phases h) (agrees h m a b u) (λ k r. eq-eqb _ _ (e u l s k r)))
+
+pub golayPair-iff : (h m : ℕ) (a b : ℕ → ℕ) → (golayPair h m a b ≡ true) ↔ CountsAgree h m a b
+golayPair-iff h m a b = (golayPair-at h m a b, golayPair-of h m a b)
+
+-- at the last shift one place is left, the first, with this difference
+abbrev ends : ℕ → ℕ → (ℕ → ℕ) → ℕ
+ends h n a = minus (phases h) (a 0) (a (0 + (n - 1)))
+
+ends-lt : (h n : ℕ) (a : ℕ → ℕ) → ends h n a < phases h
+unfolding minus
+ends-lt h n a = mod-lt _ (pow-pos h)
+
+phaseCount-last : (h n : ℕ) (a : ℕ → ℕ) (k : ℕ) → 1 ≤ n →
+    phaseCount h n a (n - 1) k ≡ one? (eqb (ends h n a) (k % phases h))
+unfolding phaseCount countBelow sumBelow
+phaseCount-last h n a k l = let e : n - (n - 1) ≡ suc zero = omega arith in rw e (omega arith)
+
+-- half a turn from d is not d
+double-mod-ne : (s d : ℕ) → 1 ≤ s → d < s * 2 → (d + s) % (s * 2) ≡ d → ⊥
+double-mod-ne s d l h e = split (leb (s * 2) (d + s)) refl
+  where
+    split : (t : Bool) → leb (s * 2) (d + s) ≡ t → ⊥
+    split true r =
+        let b : s * 2 ≤ d + s = leb-true _ _ r in
+        omega (arith, e, mod-eq-sub-mod b, mod-eq-of-lt {n = d + s - s * 2} {m = s * 2} (omega (arith, h)))
+    split false r = omega (arith, e, mod-eq-of-lt {n = d + s} {m = s * 2} (leb-false _ _ r))
+
+add-half-mod-ne : (h d : ℕ) → 1 ≤ h → d < phases h → (d + half h) % phases h ≡ d → ⊥
+add-half-mod-ne h d l s e =
+    double-mod-ne (half h) d (pow-pos (h - 1)) (rw (phases-double h l) at s) (rw (phases-double h l) at e)
+
+-- a place in each of two equal words with the same difference, and none half a turn on
+pairCount-ends-ne : (h n : ℕ) (a : ℕ → ℕ) → 1 ≤ h → 1 ≤ n →
+    pairCount h n a a (n - 1) (ends h n a) ≡ pairCount h n a a (n - 1) (ends h n a + half h) → ⊥
+unfolding pairCount
+pairCount-ends-ne h n a l s e =
+    let d = ends h n a in
+    let here : one? (eqb d (d % phases h)) ≡ 1
+    = ap one? (eq-eqb d (d % phases h) (sym (mod-eq-of-lt (ends-lt h n a)))) in
+    let across : one? (eqb d ((d + half h) % phases h)) ≡ 0
+    = ap one? (ne-eqb d ((d + half h) % phases h) (λ x. add-half-mod-ne h d l (ends-lt h n a) (sym x))) in
+    omega (arith, here, across, phaseCount-last h n a d s, phaseCount-last h n a (d + half h) s)
+
+pub golayPair-self : (h m : ℕ) (a : ℕ → ℕ) → 1 ≤ h → 1 ≤ m → golayPair h m a a ≡ false
+unfolding golayPair
+golayPair-self h m a l r =
+    let n = carriers m in
+    let d = ends h n a in
+    let p : 2 ≤ n = pow-mono {i = 1} {j = m} r in
+    let unlike : agrees h m a a (n - 1) d ≡ false = ne-eqb _ _ (pairCount-ends-ne h n a l (omega arith)) in
+    fromOne-not n (λ u. allBelow (phases h) (agrees h m a a u)) (n - 1) (omega arith) (omega arith)
+    (allBelow-not (phases h) (agrees h m a a (n - 1)) d (ends-lt h n a) unlike)

@@ -1,0 +1,74 @@
+-- `pair::all_shifts` meets its contract: the loop has passed no shift where counts differ, and stops at the first.
+-- Invariant: u is at least 1, and the counts agree at each shift from 1 to before u. Measure: what is left of a word.
+-- Assumes nothing.
+use mathlib.Core.Path.{_≡_, sym, _∙_}
+use mathlib.Core.Bool.{true}
+use Prim.Native.Nat.{ℕ, _-_, _≤_, _<_}
+use native.Mathlib.Omega.{arith}
+use lib.ListN.{length}
+use borrow.Author.Count.{below-more}
+use borrow.Author.Needs.{needs}
+use borrow.Author.Tests.{not-true, not-false}
+use denote.Ref.{now}
+use Rattle.pair.specs.Tally.{balancedAt, balanced}
+use Rattle.range.proofs.FromOne.{fromOne-of, fromOne-not}
+use Rattle.pair.proofs.all_shifts.Statement.{statement}
+use Rattle.pair.proofs.all_shifts.Tie as tie
+
+abbrev Inv-loop : tie.InvT-loop
+Inv-loop q first second u₀ u = (1 ≤ u) × ((v : ℕ) → v < u → 1 ≤ v → balancedAt q first second v ≡ true)
+
+abbrev μ-loop : tie.MeasureT-loop
+μ-loop q first second u₀ u = length first - u
+
+loop-holds : tie.Need-loop-holds Inv-loop μ-loop
+loop-holds c = (omega arith, λ v h l. absurd (omega arith))
+
+all-phases-requires : tie.Need-all-phases-requires Inv-loop μ-loop
+all-phases-requires c κs = search needs
+
+returns : tie.Need-returns Inv-loop μ-loop
+unfolding balanced
+returns c =
+    let at-loop = c .before .before .before in
+    let args = at-loop .before .before .before .args in
+    sym
+    (fromOne-not (length (now (args .first))) (balancedAt (args .q) (now (args .first)) (now (args .second)))
+    (at-loop .loop .u)
+    (c .before .before .loop-test .taken) (at-loop .loop .inv .0)
+    (sym (c .before .all-phases .ensures) ∙ not-true _ (c .if1 .taken)))
+
+add-u : tie.Need-add-u Inv-loop μ-loop
+add-u c = search needs
+
+loop-less : tie.Need-loop-less Inv-loop μ-loop
+loop-less c = search needs
+
+loop-again : tie.Need-loop-again Inv-loop μ-loop
+loop-again c = (
+  omega arith,
+  below-more _ _ (c .before .before .before .loop .inv .1)
+      (λ _. sym (c .before .all-phases .ensures) ∙ not-false _ (c .if1 .left)),
+)
+
+returns-2 : tie.Need-returns-2 Inv-loop μ-loop
+unfolding balanced
+returns-2 c =
+    let args = c .before .before .before .before .args in
+    sym
+    (fromOne-of (length (now (args .first))) (balancedAt (args .q) (now (args .first)) (now (args .second)))
+    (λ u h l. c .before .loop .inv .1 u (omega (arith, c .loop-test .left)) l))
+
+pub all-shifts-spec : {M : Type 1} → statement M
+all-shifts-spec =
+    tie.close
+    (tie.spec
+    Inv-loop
+    μ-loop
+    loop-holds
+    all-phases-requires
+    returns
+    add-u
+    loop-less
+    loop-again
+    returns-2)

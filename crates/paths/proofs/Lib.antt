@@ -1,0 +1,13 @@
+-- Laws of paths.
+pub mod Times
+pub mod Listed
+pub mod Orders
+pub mod UpTo
+pub mod Members
+pub mod Sorted
+pub mod Increasing
+pub mod Pairs
+pub mod Links
+pub mod Counts
+pub mod Reversed
+pub mod Number

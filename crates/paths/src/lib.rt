@@ -1,0 +1,1 @@
+// Laws of paths: crate rules, specs/Path.antt. Laws alone, no code.

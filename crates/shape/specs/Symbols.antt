@@ -1,0 +1,13 @@
+-- What the search through a word finds, with q for 2^h.
+-- Defines:  firstBad q w    the first place whose symbol is q or more (rules, specs/Refusal.antt: badSymbol)
+-- Laws: proofs/SymbolLaws.antt.  Assumes nothing: this is a definition.
+use mathlib.Core.List.{List}
+use mathlib.Core.Option.{Option}
+use Prim.Native.Nat.{ℕ}
+use lib.Dec.{leb}
+use lib.ListN.{length}
+use Rattle.range.specs.Below.{firstBelow}
+use Rattle.rules.specs.Refusal.{at}
+
+abbrev pub firstBad : ℕ → List ℕ → Option ℕ
+firstBad q w = firstBelow (length w) (λ i. leb q (at w i))
