@@ -57,3 +57,8 @@ pub sent-unique : (h m g : ℕ) (word before : List ℕ) (r s : Written) (after 
     Sent h m g word before r after → Sent h m g word before s after′ → (r ≡ s) × (after ≡ after′)
 sent-unique h m g word before r s after after′ p q =
     (writtenTold-inj r s (p .told ∙ sym (q .told)), p .slice ∙ sym (q .slice))
+
+-- where nothing is refused the slice holds the word
+pub sent-word : {h m g : ℕ} {word before : List ℕ} {r : Written} {after : List ℕ} → Sent h m g word before r after →
+    sendOutcome h m (length before) g ≡ allowed → after ≡ word
+sent-word {word = word} {before = before} s e = s .slice ∙ ap (λ (o : Outcome (Unit {0})). written o before word) e

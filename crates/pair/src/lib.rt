@@ -124,11 +124,5 @@ fn difference(q: u64, word: &[u8], i: usize, j: usize) -> u64
     requires { ⌜ WordOf q (now word) × ((i < length (now word)) × (j < length (now word))) ⌝ }
     ensures { λ r. ⌜ r ≡ minus q (at (now (word .entry)) i) (at (now (word .entry)) j) ⌝ }
 {
-    (wide(word[i]) + (q - wide(word[j]))) % q
-}
-
-fn wide(x: u8) -> u64
-    ensures { λ r. ⌜ r ≡ x ⌝ }
-{
-    x as u64
+    shape::minus(q, word[i], word[j])
 }

@@ -57,6 +57,12 @@ messageBits-le h m r = omega (arith, pathBits-le m, coefficientBits-le h m r)
 pub power-is : (e : ℕ) → e < 64 → cond (ltb e 64) (2 ^ e) 0 ≡ 2 ^ e
 power-is e h = rw (lt-ltb e 64 h)
 
+pub power-phases : (h m : ℕ) → inShape h m ≡ true → cond (ltb h 64) (2 ^ h) 0 ≡ phases h
+power-phases h m e = power-is h (omega (arith, inShape-range h m e .h-most))
+
+pub power-carriers : (h m : ℕ) → inShape h m ≡ true → cond (ltb m 64) (2 ^ m) 0 ≡ carriers m
+power-carriers h m e = power-is m (omega (arith, inShape-range h m e .m-most))
+
 pub phases-least : (h m : ℕ) → InRange h m → 2 ≤ phases h
 phases-least h m r = pow-mono {i = 1} {j = h} (r .h-least)
 

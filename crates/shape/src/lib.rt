@@ -6,10 +6,11 @@ use kinds::Place;
 use kinds::Search;
 ghost use mathlib.Core.Path.{_≡_};
 ghost use mathlib.Core.Bool.{not, cond, _&&_};
-ghost use Prim.Native.Nat.{_^_};
+ghost use Prim.Native.Nat.{_^_, _≤_};
 ghost use lib.Dec.{ltb};
 ghost use Rattle.rules.specs.Shape.{pathBits, inShape};
 ghost use Rattle.rules.specs.Label.{labelOf, messageOf};
+ghost use Rattle.rules.specs.Pair.{minus};
 ghost use Rattle.rules.specs.Refusal.{badMessage};
 ghost use Rattle.kinds.specs.Told.{searchTold};
 ghost use Rattle.shape.specs.Symbols.{firstBad};
@@ -80,6 +81,30 @@ pub fn message_of(h: u32, m: u32, label: u64) -> MessageNumber
     ensures { λ r. ⌜ r .0 ≡ messageOf h m label ⌝ }
 {
     MessageNumber(label)
+}
+
+// a - b modulo q, where q is from 1 to 256 and b is at most q; else 0.
+pub fn minus(q: u64, a: u8, b: u8) -> u64
+    ensures { λ r. ⌜ (1 ≤ q → q ≤ 256 → b ≤ q → r ≡ minus q a b) ⌝ }
+{
+    let x = wide(a);
+    let y = wide(b);
+    if q == 0 {
+        return 0;
+    }
+    if 256 < q {
+        return 0;
+    }
+    if q < y {
+        return 0;
+    }
+    (x + (q - y)) % q
+}
+
+fn wide(x: u8) -> u64
+    ensures { λ y. ⌜ y ≡ x ⌝ }
+{
+    x as u64
 }
 
 // The first symbol of a word that is q or more.

@@ -1,0 +1,155 @@
+-- What the symbols show of a label. In order: as the number of the label's parts; its bounds; the next path; a word shows
+-- its own label; the test of a message; the message that has a word, and where no message has it.  Assumes nothing.
+use mathlib.Core.Path.{_≡_, refl, sym, _∙_, ap, ap₂, subst}
+use mathlib.Core.Bool.{Bool, true, false, false≢true}
+use mathlib.Core.List.{List, []}
+use mathlib.Core.Option.{Option, none, some}
+use Prim.Native.Nat.{ℕ, zero, suc, _+_, _-_, _*_, _%_, _^_, _≤_, _<_, zero-le, suc-le-suc}
+use native.Mathlib.Nat.{mod-lt, zero-mul, add-mul, one-mul, lt-irrefl, pow-zero, pow-suc, le-refl, lt-trans, lt-of-lt-of-le, mul-le-mul-left}
+use native.Mathlib.Omega.{arith}
+use lib.Dec.{T, eqb}
+use lib.ListN.{length, getD}
+use lib.Arith.{digits-lt}
+use lib.Pow.{pow-pos, pow-mono}
+use lib.Seq.{ext-getD}
+use borrow.Author.Tests.{eq-eqb, eqb-true}
+use Rattle.range.specs.Below.{allBelow, firstBelow}
+use Rattle.range.proofs.Tests.{allBelow-of, allBelow-at, firstBelow-some, firstBelow-none}
+use Rattle.rules.specs.Shape.{phases, carriers, pathsInUse, messageBits}
+use Rattle.rules.specs.Label.{labels, labelPath, coefficient, constant, labelOf, messageOf}
+use Rattle.rules.specs.Word.{wordAt, wordOf}
+use Rattle.rules.specs.Pair.{minus}
+use Rattle.rules.specs.Refusal.{at, messageWith}
+use Rattle.words.proofs.Digits.{one-lt}
+use Rattle.words.proofs.Labels.{
+  phases-pow,
+  numberOf,
+  numberOf-lt,
+  numberOf-back,
+  labelPath-lt,
+  labelOf-lt,
+  messageOf-labelOf,
+}
+use Rattle.words.proofs.Horner.{numberOf-split, numberOf-cong}
+use Rattle.words.proofs.Forms.{length-wordOf, wordOf-at}
+use Rattle.words.proofs.Readings.{Good, wordAt-zero, coefficient-read}
+use Rattle.words.proofs.Used.{used-good}
+use Rattle.words.proofs.Inject.{wordOf-inj}
+use Rattle.shape.proofs.Range.{InRange, inShape-range, range-inM, coefficientBits-le}
+use Rattle.reader.specs.Shown.{Word, shown, shownUpTo, lowOf, labelWith}
+
+pub shown-lt : (h m : ℕ) (w : List ℕ) (k : ℕ) → shown h m w k < phases h
+unfolding shown minus
+shown-lt h m w k = mod-lt _ (pow-pos h)
+
+shownUpTo-is : (h m : ℕ) (w : List ℕ) (k c0 : ℕ) → shownUpTo h m w k * phases h + c0 ≡ numberOf h k 0 (shown h m w) c0
+unfolding shownUpTo numberOf
+shownUpTo-is h m w zero c0 = refl
+shownUpTo-is h m w (suc k) c0 = ap (λ (x : ℕ). x * phases h + c0) (shownUpTo-is h m w k (shown h m w (suc k)))
+
+shownUpTo-lt : (h m : ℕ) (w : List ℕ) (k : ℕ) → shownUpTo h m w k < phases h ^ k
+unfolding shownUpTo
+shownUpTo-lt h m w zero = rw pow-zero (le-refl 1)
+shownUpTo-lt h m w (suc k) = rw (pow-suc (phases h) k) (digits-lt (shownUpTo-lt h m w k) (shown-lt h m w (suc k)))
+
+-- the number that is read stays far below the width of the code's numbers
+pub shownUpTo-small : (h m : ℕ) (w : List ℕ) (k : ℕ) → InRange h m → k ≤ m → shownUpTo h m w k < 2 ^ 18
+shownUpTo-small h m w k range b =
+    lt-of-lt-of-le (shownUpTo-lt h m w k)
+    (rw (phases-pow h k) (pow-mono {i = h * k} {j = 18}
+    (omega (arith, coefficientBits-le h m range, mul-le-mul-left {m = k} {n = m + 1} h (omega arith)))))
+
+labelWith-is : (h m : ℕ) (w : List ℕ) (n : ℕ) → labelWith h m w n ≡ numberOf h m n (shown h m w) (at w 0)
+unfolding labelWith lowOf
+labelWith-is h m w n =
+    ap (λ (x : ℕ). n * phases h ^ (m + 1) + x) (shownUpTo-is h m w m (at w 0))
+    ∙ sym (numberOf-split h m n (shown h m w) (at w 0))
+
+pub labelWith-zero : (h m : ℕ) (w : List ℕ) → lowOf h m w ≡ labelWith h m w 0
+unfolding labelWith
+labelWith-zero h m w = omega (arith, zero-mul (phases h ^ (m + 1)))
+
+pub labelWith-next : (h m : ℕ) (w : List ℕ) (n : ℕ) → labelWith h m w n + phases h ^ (m + 1) ≡ labelWith h m w (n + 1)
+unfolding labelWith
+labelWith-next h m w n = rw (add-mul n 1 (phases h ^ (m + 1)), one-mul (phases h ^ (m + 1))) (omega arith)
+
+module _ (h m : ℕ) (w : List ℕ) (word : Word h m w) where
+  range : InRange h m
+  range = inShape-range h m (word .shape)
+
+  pub first-lt : at w 0 < phases h
+  first-lt = word .symbols 0 (subst (λ (n : ℕ). 0 < n) (sym (word .long)) (pow-pos m))
+
+  pub labelWith-lt : (n : ℕ) → n < pathsInUse m → labelWith h m w n < labels h m
+  labelWith-lt n l =
+      subst (λ (x : ℕ). x < labels h m) (sym (labelWith-is h m w n))
+      (numberOf-lt h (shown h m w) m n (at w 0) l (λ j _ _. shown-lt h m w j) first-lt)
+
+  -- a message's word shows the message's own label
+  module _ (g : ℕ) (taken : g < 2 ^ messageBits h m) (has : wordOf h m g ≡ w) where
+    abbrev l : ℕ
+    l = labelOf h m g
+
+    symbol-is : (i : ℕ) → i < carriers m → wordAt h m l i ≡ at w i
+    symbol-is i b = sym (wordOf-at h m g i b) ∙ ap (λ (v : List ℕ). getD v i 0) has
+
+    path-used : labelPath h m l < pathsInUse m
+    path-used = labelPath-lt h m l (labelOf-lt h m g taken)
+
+    shown-is : (k : ℕ) → 1 ≤ k → k ≤ m → shown h m w k ≡ coefficient h m l k
+    unfolding shown
+    shown-is k a b =
+        sym
+        (coefficient-read h m l (used-good m (labelPath h m l) (range-inM h m range) path-used) k a b
+        ∙ ap₂ (minus (phases h)) (symbol-is (2 ^ (m - k)) (one-lt m k a b)) (symbol-is 0 (pow-pos m)))
+
+    constant-is : at w 0 ≡ constant h l
+    constant-is = sym (symbol-is 0 (pow-pos m)) ∙ wordAt-zero h m l
+
+    shows-label : labelWith h m w (labelPath h m l) ≡ l
+    shows-label =
+        labelWith-is h m w (labelPath h m l)
+        ∙ numberOf-cong h m (labelPath h m l) (shown h m w) (coefficient h m l) (at w 0) (constant h l) shown-is constant-is
+        ∙ numberOf-back h m l
+
+    pub shows-message : messageOf h m (labelWith h m w (labelPath h m l)) ≡ g
+    shows-message = ap (messageOf h m) shows-label ∙ messageOf-labelOf h m g
+
+  -- the test that a message has the word
+  abbrev hasWord : ℕ → Bool
+  hasWord g = allBelow (carriers m) (λ i. eqb (wordAt h m (labelOf h m g) i) (at w i))
+
+  hasWord-of : (g : ℕ) → wordOf h m g ≡ w → hasWord g ≡ true
+  hasWord-of g e =
+      allBelow-of (carriers m) _
+      (λ i b. eq-eqb _ _ (sym (wordOf-at h m g i b) ∙ ap (λ (v : List ℕ). getD v i 0) e))
+
+  hasWord-is : (g : ℕ) → hasWord g ≡ true → wordOf h m g ≡ w
+  hasWord-is g e =
+      ext-getD 0 (wordOf h m g) w (length-wordOf h m g ∙ sym (word .long))
+      (λ i b.
+      let b′ : i < carriers m = subst (λ (n : ℕ). i < n) (length-wordOf h m g) b in
+      wordOf-at h m g i b′ ∙ eqb-true _ _ (allBelow-at (carriers m) _ e i b′))
+
+  not-true : (b : Bool) → (b ≡ true → ⊥) → b ≡ false
+  not-true true f = absurd (f refl)
+  not-true false f = refl
+
+  pub messageWith-some : (g : ℕ) → g < 2 ^ messageBits h m → wordOf h m g ≡ w → messageWith h m w ≡ some g
+  unfolding messageWith
+  messageWith-some g taken e =
+      firstBelow-some (2 ^ messageBits h m) hasWord g taken (hasWord-of g e)
+      (λ j b. not-true (hasWord j) (λ t. before j b (wordOf-inj m (range-inM h m range) h j g (range .h-least)
+      (lt-trans b taken) taken (hasWord-is j t ∙ sym e))))
+    where
+      before : (j : ℕ) → j < g → j ≡ g → ⊥
+      before j b q = lt-irrefl g (subst (λ (x : ℕ). x < g) q b)
+
+  pub messageWith-none : ((n : ℕ) → n < pathsInUse m → wordOf h m (messageOf h m (labelWith h m w n)) ≡ w → ⊥) →
+      messageWith h m w ≡ none
+  unfolding messageWith
+  messageWith-none tried =
+      firstBelow-none (2 ^ messageBits h m) hasWord
+      (λ g taken. not-true (hasWord g) (λ t. let e : wordOf h m g ≡ w = hasWord-is g t in
+      tried (labelPath h m (labelOf h m g)) (path-used g taken e)
+      (ap (wordOf h m) (shows-message g taken e) ∙ e)))

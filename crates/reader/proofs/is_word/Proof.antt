@@ -1,0 +1,33 @@
+-- `reader::is_word` meets its contract: the word fits the buffer, whose first places are lent.
+-- Assumes nothing.
+use mathlib.Core.Path.{_≡_, sym}
+use Prim.Native.Nat.{_≤_}
+use native.Mathlib.Omega.{arith}
+use lib.ListN.{length, replicate}
+use lib.Seq.{length-take-le}
+use denote.Ref.{now}
+use borrow.Author.Needs.{needs}
+use Rattle.shape.proofs.Range.{inShape-range, carriers-most}
+use Rattle.reader.proofs.is_word.Statement.{statement}
+use Rattle.reader.proofs.is_word.Tie as tie
+
+fits : (c : tie.After-shared-slice-known) → length (now (c .before .args .word)) ≤ 32
+fits c =
+    let start = c .before in
+    omega (arith, start .pre .0 .long, carriers-most (start .args .h) (start .args .m) (inShape-range _ _ (start .pre .0 .shape)))
+
+array-borrow-prefix-buffer : tie.Need-array-borrow-prefix-buffer
+array-borrow-prefix-buffer c = fits c
+
+slice-aggregate-compare : tie.Need-slice-aggregate-compare
+slice-aggregate-compare c = sym (length-take-le _ (replicate 32 0) (fits (c .before)))
+
+compare-requires : tie.Need-compare-requires
+compare-requires c κs =
+    (c .before .before .pre .0, (c .before .before .pre .1, length-take-le _ (replicate 32 0) (fits (c .before))))
+
+returns : tie.Need-returns
+returns c = search needs
+
+pub is-word-spec : {M : Type 1} → statement M
+is-word-spec = tie.close (tie.spec array-borrow-prefix-buffer slice-aggregate-compare compare-requires returns)
