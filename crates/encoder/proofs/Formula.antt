@@ -13,7 +13,7 @@ use borrow.Author.Tests.{le-leb}
 use Rattle.range.specs.Below.{sumBelow, listBelow}
 use Rattle.range.proofs.Sums.{sumBelow-cong}
 use Rattle.range.proofs.Lists.{listBelow-at, listBelow-cong}
-use Rattle.rules.specs.Shape.{greatestM, phases, half, carriers, pathsInUse, inM}
+use Rattle.rules.specs.Shape.{greatestM, phases, halfTurn, carriers, pathsInUse, inM}
 use Rattle.rules.specs.Place.{digit, generatorAt}
 use Rattle.rules.specs.Path.{IsPath, paths, pathAt, headOf}
 use Rattle.rules.specs.Label.{labels, labelPath, labelOf, rowCoefficient}
@@ -23,7 +23,7 @@ use Rattle.words.proofs.Labels.{labelPath-lt, coefficient-lt, constant-lt}
 use Rattle.words.proofs.Forms.{formAt-rows, partnerAt-form}
 use Rattle.words.proofs.Used.{used-isPath}
 use Rattle.words.proofs.Inject.{phases-half}
-use Rattle.shape.proofs.Range.{InRange, range-inM, phases-most, carriers-most}
+use Rattle.rules.proofs.Range.{InRange, range-inM, phases-most, carriers-most}
 use Rattle.encoder.specs.Steps.{generatorRows, pathRow, cell, linearOf, linksOf, symbolOf, liftedAt, Cells, Small, Walk}
 use Rattle.encoder.proofs.Matrix.{generatorAt-digit, generatorRows-at, generatorRows-cells}
 
@@ -47,8 +47,8 @@ headOf-at : (p : List ℕ) → headOf p ≡ getD p 0 0
 headOf-at [] = refl
 headOf-at (x ∷ p) = refl
 
-pub phases-by-two : (h : ℕ) → 1 ≤ h → phases h / 2 ≡ half h
-phases-by-two h one = rw (phases-half h one) (mul-div-right (half h) (lit< tt))
+pub phases-by-two : (h : ℕ) → 1 ≤ h → phases h / 2 ≡ halfTurn h
+phases-by-two h one = rw (phases-half h one) (mul-div-right (halfTurn h) (lit< tt))
 
 module _ (h m l : ℕ) (range : InRange h m) (used : l < labels h m) where
   abbrev path : List ℕ
@@ -114,7 +114,7 @@ pub record Held (h m l lift : ℕ) (g : List (List ℕ)) (p c : List ℕ) (q s :
   pub steps : p ≡ pathRow m (labelPath h m l)
   pub coefficients : (r : ℕ) → r ≤ m → getD c r 0 ≡ rowCoefficient h m l r
   pub base : q ≡ phases h
-  pub lifted : s ≡ lift * half h
+  pub lifted : s ≡ lift * halfTurn h
 
 module _ (h m l lift : ℕ) (g : List (List ℕ)) (p c : List ℕ) (q s : ℕ) (held : Held h m l lift g p c q s) where
   pub held-cells : Cells m g
@@ -130,25 +130,25 @@ module _ (h m l lift : ℕ) (g : List (List ℕ)) (p c : List ℕ) (q s : ℕ) (
   held-walk = subst (Walk m) (sym (held .steps)) (walk h m l (held .range) (held .used))
 
   pub held-symbols : (n : ℕ) → n ≡ carriers m →
-      listBelow n (symbolOf g p c m q s) ≡ listBelow (carriers m) (liftedAt h m l (lift * half h))
+      listBelow n (symbolOf g p c m q s) ≡ listBelow (carriers m) (liftedAt h m l (lift * halfTurn h))
   held-symbols n e =
       rw (e, held .rows, held .steps, held .base, held .lifted)
       (listBelow-cong (carriers m) _ _
-      (λ i h₁. symbol-is h m l (held .range) (held .used) i h₁ c (held .coefficients) (lift * half h)))
+      (λ i h₁. symbol-is h m l (held .range) (held .used) i h₁ c (held .coefficients) (lift * halfTurn h)))
 
 -- the two lifts: the word and its partner
-liftedAt-zero : (h m l i : ℕ) → liftedAt h m l (0 * half h) i ≡ wordAt h m l i
+liftedAt-zero : (h m l i : ℕ) → liftedAt h m l (0 * halfTurn h) i ≡ wordAt h m l i
 unfolding liftedAt wordAt
 liftedAt-zero h m l i = ap (λ (x : ℕ). x % phases h) (omega arith)
 
-liftedAt-one : (h m l i : ℕ) → liftedAt h m l (1 * half h) i ≡ partnerAt h m l i
+liftedAt-one : (h m l i : ℕ) → liftedAt h m l (1 * halfTurn h) i ≡ partnerAt h m l i
 unfolding liftedAt
-liftedAt-one h m l i = rw (one-mul (half h)) (sym (partnerAt-form h m l i))
+liftedAt-one h m l i = rw (one-mul (halfTurn h)) (sym (partnerAt-form h m l i))
 
-pub lifted-word : (h m g : ℕ) → listBelow (carriers m) (liftedAt h m (labelOf h m g) (0 * half h)) ≡ wordOf h m g
+pub lifted-word : (h m g : ℕ) → listBelow (carriers m) (liftedAt h m (labelOf h m g) (0 * halfTurn h)) ≡ wordOf h m g
 unfolding wordOf
 lifted-word h m g = listBelow-cong (carriers m) _ _ (λ i _. liftedAt-zero h m (labelOf h m g) i)
 
-pub lifted-partner : (h m g : ℕ) → listBelow (carriers m) (liftedAt h m (labelOf h m g) (1 * half h)) ≡ partnerOf h m g
+pub lifted-partner : (h m g : ℕ) → listBelow (carriers m) (liftedAt h m (labelOf h m g) (1 * halfTurn h)) ≡ partnerOf h m g
 unfolding partnerOf
 lifted-partner h m g = listBelow-cong (carriers m) _ _ (λ i _. liftedAt-one h m (labelOf h m g) i)

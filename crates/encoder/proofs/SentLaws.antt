@@ -8,37 +8,39 @@ use Prim.Native.Nat.{ℕ}
 use lib.ListN.{length}
 use borrow.Author.Tests.{eq-eqb, ne-eqb}
 use Rattle.rules.specs.Shape.{inShape, carriers}
-use Rattle.rules.specs.Refusal.{Outcome, gives, refuses, allowed, badMessage, sendOutcome}
+use Rattle.rules.specs.Outcome.{Outcome, gives, refuses, allowed}
+use Rattle.rules.specs.Table.{badMessage}
+use Rattle.rules.specs.Refusal.{sendRefusal}
 use Rattle.kinds.proofs.ToldLaws.{refusalTold-inj, gives-not-refuses}
 use Rattle.encoder.specs.declared.Written.{Written}
 use Rattle.encoder.specs.declared.Written.the-variants.{Done, Refused}
-use Rattle.encoder.specs.Sent.{writtenTold, written, Sent}
+use Rattle.encoder.specs.Sent.{writtenTold, sliceAfter, Sent}
 
 module _ (h m n g : ℕ) where
-  pub send-shape : inShape h m ≡ false → sendOutcome h m n g ≡ refuses 1 []
-  unfolding sendOutcome
+  pub send-shape : inShape h m ≡ false → sendRefusal h m n g ≡ refuses 1 []
+  unfolding sendRefusal
   send-shape e = rw e
 
-  pub send-length : inShape h m ≡ true → (n ≡ carriers m → ⊥) → sendOutcome h m n g ≡ refuses 2 []
-  unfolding sendOutcome
+  pub send-length : inShape h m ≡ true → (n ≡ carriers m → ⊥) → sendRefusal h m n g ≡ refuses 2 []
+  unfolding sendRefusal
   send-length e q = rw (e, ne-eqb n (carriers m) q)
 
-  pub send-message : inShape h m ≡ true → n ≡ carriers m → badMessage h m g ≡ true → sendOutcome h m n g ≡ refuses 4 []
-  unfolding sendOutcome
+  pub send-message : inShape h m ≡ true → n ≡ carriers m → badMessage h m g ≡ true → sendRefusal h m n g ≡ refuses 4 []
+  unfolding sendRefusal
   send-message e q b = rw (e, eq-eqb n (carriers m) q, b)
 
-  pub send-allowed : inShape h m ≡ true → n ≡ carriers m → badMessage h m g ≡ false → sendOutcome h m n g ≡ allowed
-  unfolding sendOutcome
+  pub send-allowed : inShape h m ≡ true → n ≡ carriers m → badMessage h m g ≡ false → sendRefusal h m n g ≡ allowed
+  unfolding sendRefusal
   send-allowed e q b = rw (e, eq-eqb n (carriers m) q, b)
 
 module _ (h m g : ℕ) (word before : List ℕ) where
-  pub sent-refused : (r : Written) (k : ℕ) (v : List ℕ) → sendOutcome h m (length before) g ≡ refuses k v →
+  pub sent-refused : (r : Written) (k : ℕ) (v : List ℕ) → sendRefusal h m (length before) g ≡ refuses k v →
       writtenTold r ≡ refuses k v → Sent h m g word before r before
-  sent-refused r k v e t = record { told = t ∙ sym e; slice = ap (λ (o : Outcome (Unit {0})). written o before word) (sym e) }
+  sent-refused r k v e t = record { told = t ∙ sym e; slice = ap (λ (o : Outcome (Unit {0})). sliceAfter o before word) (sym e) }
 
-  pub sent-done : (after : List ℕ) → sendOutcome h m (length before) g ≡ allowed → after ≡ word →
+  pub sent-done : (after : List ℕ) → sendRefusal h m (length before) g ≡ allowed → after ≡ word →
       Sent h m g word before Done after
-  sent-done after e q = record { told = sym e; slice = q ∙ ap (λ (o : Outcome (Unit {0})). written o before word) (sym e) }
+  sent-done after e q = record { told = sym e; slice = q ∙ ap (λ (o : Outcome (Unit {0})). sliceAfter o before word) (sym e) }
 
 -- the word may be said in another way
 pub sent-cong : {h m g : ℕ} {word word′ before : List ℕ} {r : Written} {after : List ℕ} → word ≡ word′ →
@@ -60,5 +62,5 @@ sent-unique h m g word before r s after after′ p q =
 
 -- where nothing is refused the slice holds the word
 pub sent-word : {h m g : ℕ} {word before : List ℕ} {r : Written} {after : List ℕ} → Sent h m g word before r after →
-    sendOutcome h m (length before) g ≡ allowed → after ≡ word
-sent-word {word = word} {before = before} s e = s .slice ∙ ap (λ (o : Outcome (Unit {0})). written o before word) e
+    sendRefusal h m (length before) g ≡ allowed → after ≡ word
+sent-word {word = word} {before = before} s e = s .slice ∙ ap (λ (o : Outcome (Unit {0})). sliceAfter o before word) e

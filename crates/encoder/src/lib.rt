@@ -12,7 +12,7 @@ ghost use mathlib.Core.List.{List, []};
 ghost use Prim.Native.Nat.{ℕ, zero, suc, _+_, _-_, _*_, _%_, _≤_, _<_};
 ghost use lib.ListN.{length, getD};
 ghost use Rattle.range.specs.Below.{listBelow};
-ghost use Rattle.rules.specs.Shape.{pathsInUse, carriers, inShape, phases, half, greatestM};
+ghost use Rattle.rules.specs.Shape.{pathsInUse, carriers, inShape, phases, halfTurn, greatestM};
 ghost use Rattle.rules.specs.Place.{digit};
 ghost use Rattle.rules.specs.Label.{labels, labelOf};
 ghost use Rattle.rules.specs.Word.{wordOf, partnerOf};
@@ -61,7 +61,7 @@ pub fn partner(h: u32, m: u32, message: MessageNumber, out: &mut [u8]) -> Writte
 // The word for lift 0 and the partner for lift 1.
 fn send(h: u32, m: u32, message: MessageNumber, lift: u32, out: &mut [u8]) -> Written
     requires { ⌜ lift ≤ 1 ⌝ }
-    ensures { λ r. ⌜ Sent h m (message .0) (listBelow (carriers m) (liftedAt h m (labelOf h m (message .0)) (lift * half h)))
+    ensures { λ r. ⌜ Sent h m (message .0) (listBelow (carriers m) (liftedAt h m (labelOf h m (message .0)) (lift * halfTurn h)))
         (now (out .entry)) r (now (out .exit)) ⌝ }
 {
     if !shape::in_shape(h, m) {
@@ -84,7 +84,7 @@ fn fill(h: u32, m: u32, label: u64, lift: u32, out: &mut [u8])
     requires { ⌜ inShape h m ≡ true ⌝ }
     requires { ⌜ label < labels h m ⌝ }
     requires { ⌜ length (now out) ≡ carriers m ⌝ }
-    ensures { λ _. ⌜ now (out .exit) ≡ listBelow (carriers m) (liftedAt h m label (lift * half h)) ⌝ }
+    ensures { λ _. ⌜ now (out .exit) ≡ listBelow (carriers m) (liftedAt h m label (lift * halfTurn h)) ⌝ }
 {
     let q = shape::power(h) as u32;
     let t = split(h, m, label);

@@ -8,7 +8,7 @@ use Prim.Native.Nat.{ℕ, _-_}
 use native.Mathlib.Omega.{arith}
 use lib.ListN.{getD, drop}
 use Rattle.rules.specs.Path.{headOf}
-use Rattle.rules.specs.Refusal.{Outcome, gives, refuses}
+use Rattle.rules.specs.Outcome.{Outcome, gives, refuses}
 use Rattle.kinds.specs.declared.Refusal.{Refusal}
 use Rattle.kinds.specs.declared.Refusal.the-variants.{Shape, Length, Symbol, Message, NoWord, Octary, Value}
 use Rattle.kinds.specs.Told.{refusalNumber, refusalCarries, refusalTold}

@@ -7,7 +7,7 @@
 use mathlib.Core.List.{List, [], _∷_}
 use mathlib.Core.Option.{Option, none, some}
 use Prim.Native.Nat.{ℕ}
-use Rattle.rules.specs.Refusal.{Outcome, refuses}
+use Rattle.rules.specs.Outcome.{Outcome, refuses}
 use Rattle.kinds.specs.declared.Refusal.{Refusal}
 use Rattle.kinds.specs.declared.Refusal.the-variants.{Shape, Length, Symbol, Message, NoWord, Octary, Value}
 use Rattle.kinds.specs.declared.Search.{Search}

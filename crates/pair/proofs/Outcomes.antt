@@ -9,8 +9,10 @@ use Prim.Native.Nat.{ℕ, _≤_}
 use lib.ListN.{length}
 use borrow.Author.Tests.{eq-eqb, ne-eqb}
 use Rattle.rules.specs.Shape.{phases, carriers, inShape}
-use Rattle.rules.specs.Refusal.{gives, refuses, badSymbol, pairOutcome}
-use Rattle.shape.proofs.Range.{inShape-range}
+use Rattle.rules.specs.Outcome.{gives, refuses}
+use Rattle.rules.specs.Table.{badSymbol}
+use Rattle.rules.specs.Refusal.{pairOutcome}
+use Rattle.rules.proofs.Range.{inShape-range}
 use Rattle.shape.specs.Symbols.{firstBad}
 use Rattle.shape.proofs.SymbolLaws.{firstBad-none}
 use Rattle.pair.specs.Tally.{PairOf, balanced, wordsOutcome}

@@ -12,32 +12,32 @@ use lib.Dec.{leb, eqb}
 use lib.ListN.{length}
 use lib.Pow.{pow-pos, pow-mono}
 use borrow.Author.Tests.{leb-true, leb-false, eq-eqb, eqb-true, ne-eqb}
-use Rattle.range.specs.Below.{sumBelow, countBelow, allBelow, one?}
+use Rattle.range.specs.Below.{sumBelow, countBelow, allBelow, oneIf}
 use Rattle.range.proofs.Tests.{allBelow-of, allBelow-at, allBelow-not, allBelow-cong}
-use Rattle.rules.specs.Shape.{phases, half, carriers}
+use Rattle.rules.specs.Shape.{phases, halfTurn, carriers}
 use Rattle.rules.specs.Pair.{minus, phaseCount, pairCount, golayPair}
-use Rattle.rules.specs.Refusal.{at}
+use Rattle.rules.specs.Word.{symbolAt}
 use Rattle.pair.specs.Tally.{tallyBefore, tally, tallies, agreesAt, balancedAt, balanced}
 use Rattle.range.proofs.FromOne.{fromOne-of, fromOne-at, fromOne-not}
 
-pub phases-double : (h : ℕ) → 1 ≤ h → phases h ≡ half h * 2
+pub phases-double : (h : ℕ) → 1 ≤ h → phases h ≡ halfTurn h * 2
 phases-double zero l = absurd (omega (arith, l))
 phases-double (suc h) l = let e : suc h - 1 ≡ h = omega arith in rw e (pow-suc 2 h)
 
 pub pairCount-tallies : (h n : ℕ) (a b : List ℕ) (u k : ℕ) → length a ≡ n → length b ≡ n →
-    pairCount h n (at a) (at b) u k ≡ tallies (phases h) a b u (k % phases h)
+    pairCount h n (symbolAt a) (symbolAt b) u k ≡ tallies (phases h) a b u (k % phases h)
 unfolding pairCount phaseCount tallies tally tallyBefore
 pairCount-tallies h n a b u k p r = rw (p, r)
 
 pub agreesAt-phases : (h n : ℕ) (a b : List ℕ) (u k : ℕ) → 1 ≤ h → length a ≡ n → length b ≡ n → k < phases h →
-    eqb (pairCount h n (at a) (at b) u k) (pairCount h n (at a) (at b) u (k + half h)) ≡ agreesAt (phases h) a b u k
+    eqb (pairCount h n (symbolAt a) (symbolAt b) u k) (pairCount h n (symbolAt a) (symbolAt b) u (k + halfTurn h)) ≡ agreesAt (phases h) a b u k
 unfolding agreesAt
 agreesAt-phases h n a b u k l p r s =
-    let e : half h ≡ phases h / 2 = omega (arith, phases-double h l) in
-    rw (pairCount-tallies h n a b u k p r, pairCount-tallies h n a b u (k + half h) p r, mod-eq-of-lt s, e)
+    let e : halfTurn h ≡ phases h / 2 = omega (arith, phases-double h l) in
+    rw (pairCount-tallies h n a b u k p r, pairCount-tallies h n a b u (k + halfTurn h) p r, mod-eq-of-lt s, e)
 
 pub golayPair-balanced : (h m : ℕ) (a b : List ℕ) → 1 ≤ h → length a ≡ carriers m → length b ≡ carriers m →
-    golayPair h m (at a) (at b) ≡ balanced (phases h) a b
+    golayPair h m (symbolAt a) (symbolAt b) ≡ balanced (phases h) a b
 unfolding golayPair balanced balancedAt
 golayPair-balanced h m a b l p r =
     rw p
@@ -45,13 +45,13 @@ golayPair-balanced h m a b l p r =
 
 -- the two counts of a phase, compared
 abbrev agrees : ℕ → ℕ → (ℕ → ℕ) → (ℕ → ℕ) → ℕ → ℕ → Bool
-agrees h m a b u k = eqb (pairCount h (carriers m) a b u k) (pairCount h (carriers m) a b u (k + half h))
+agrees h m a b u k = eqb (pairCount h (carriers m) a b u k) (pairCount h (carriers m) a b u (k + halfTurn h))
 
 -- the counts agree at each shift from 1 to N - 1 and each phase
 abbrev pub CountsAgree : ℕ → ℕ → (ℕ → ℕ) → (ℕ → ℕ) → Type 0
 CountsAgree h m a b =
     (u : ℕ) → 1 ≤ u → u < carriers m → (k : ℕ) → k < phases h →
-    pairCount h (carriers m) a b u k ≡ pairCount h (carriers m) a b u (k + half h)
+    pairCount h (carriers m) a b u k ≡ pairCount h (carriers m) a b u (k + halfTurn h)
 
 pub golayPair-at : (h m : ℕ) (a b : ℕ → ℕ) → golayPair h m a b ≡ true → CountsAgree h m a b
 unfolding golayPair
@@ -77,7 +77,7 @@ unfolding minus
 ends-lt h n a = mod-lt _ (pow-pos h)
 
 phaseCount-last : (h n : ℕ) (a : ℕ → ℕ) (k : ℕ) → 1 ≤ n →
-    phaseCount h n a (n - 1) k ≡ one? (eqb (ends h n a) (k % phases h))
+    phaseCount h n a (n - 1) k ≡ oneIf (eqb (ends h n a) (k % phases h))
 unfolding phaseCount countBelow sumBelow
 phaseCount-last h n a k l = let e : n - (n - 1) ≡ suc zero = omega arith in rw e (omega arith)
 
@@ -91,21 +91,21 @@ double-mod-ne s d l h e = split (leb (s * 2) (d + s)) refl
         omega (arith, e, mod-eq-sub-mod b, mod-eq-of-lt {n = d + s - s * 2} {m = s * 2} (omega (arith, h)))
     split false r = omega (arith, e, mod-eq-of-lt {n = d + s} {m = s * 2} (leb-false _ _ r))
 
-add-half-mod-ne : (h d : ℕ) → 1 ≤ h → d < phases h → (d + half h) % phases h ≡ d → ⊥
+add-half-mod-ne : (h d : ℕ) → 1 ≤ h → d < phases h → (d + halfTurn h) % phases h ≡ d → ⊥
 add-half-mod-ne h d l s e =
-    double-mod-ne (half h) d (pow-pos (h - 1)) (rw (phases-double h l) at s) (rw (phases-double h l) at e)
+    double-mod-ne (halfTurn h) d (pow-pos (h - 1)) (rw (phases-double h l) symbolAt s) (rw (phases-double h l) symbolAt e)
 
 -- a place in each of two equal words with the same difference, and none half a turn on
 pairCount-ends-ne : (h n : ℕ) (a : ℕ → ℕ) → 1 ≤ h → 1 ≤ n →
-    pairCount h n a a (n - 1) (ends h n a) ≡ pairCount h n a a (n - 1) (ends h n a + half h) → ⊥
+    pairCount h n a a (n - 1) (ends h n a) ≡ pairCount h n a a (n - 1) (ends h n a + halfTurn h) → ⊥
 unfolding pairCount
 pairCount-ends-ne h n a l s e =
     let d = ends h n a in
-    let here : one? (eqb d (d % phases h)) ≡ 1
-    = ap one? (eq-eqb d (d % phases h) (sym (mod-eq-of-lt (ends-lt h n a)))) in
-    let across : one? (eqb d ((d + half h) % phases h)) ≡ 0
-    = ap one? (ne-eqb d ((d + half h) % phases h) (λ x. add-half-mod-ne h d l (ends-lt h n a) (sym x))) in
-    omega (arith, here, across, phaseCount-last h n a d s, phaseCount-last h n a (d + half h) s)
+    let here : oneIf (eqb d (d % phases h)) ≡ 1
+    = ap oneIf (eq-eqb d (d % phases h) (sym (mod-eq-of-lt (ends-lt h n a)))) in
+    let across : oneIf (eqb d ((d + halfTurn h) % phases h)) ≡ 0
+    = ap oneIf (ne-eqb d ((d + halfTurn h) % phases h) (λ x. add-half-mod-ne h d l (ends-lt h n a) (sym x))) in
+    omega (arith, here, across, phaseCount-last h n a d s, phaseCount-last h n a (d + halfTurn h) s)
 
 pub golayPair-self : (h m : ℕ) (a : ℕ → ℕ) → 1 ≤ h → 1 ≤ m → golayPair h m a a ≡ false
 unfolding golayPair

@@ -11,7 +11,7 @@ use borrow.Author.Tests.{eq-eqb, ne-eqb}
 use Rattle.range.specs.Below.{sumBelow, countBelow}
 use Rattle.range.proofs.Sums.{countBelow-suc, countBelow-le}
 use Rattle.rules.specs.Pair.{minus}
-use Rattle.rules.specs.Refusal.{at}
+use Rattle.rules.specs.Word.{symbolAt}
 use Rattle.pair.specs.Tally.{tallyBefore, tally, tallies, agreesAt}
 
 module _ (q : ℕ) (w : List ℕ) (u k : ℕ) where
@@ -24,7 +24,7 @@ module _ (q : ℕ) (w : List ℕ) (u k : ℕ) where
   tallyBefore-le n = countBelow-le n _
 
   -- one more place, with the difference d: it is counted where d is k
-  module _ (n c d : ℕ) (so-far : c ≡ tallyBefore q w u k n) (is : d ≡ minus q (at w n) (at w (n + u))) where
+  module _ (n c d : ℕ) (so-far : c ≡ tallyBefore q w u k n) (is : d ≡ minus q (symbolAt w n) (symbolAt w (n + u))) where
     pub tally-hit : d ≡ k → c + 1 ≡ tallyBefore q w u k (n + 1)
     unfolding tallyBefore
     tally-hit e = rw (add-one n, countBelow-suc, sym is, eq-eqb d k e, so-far)

@@ -5,7 +5,8 @@ use mathlib.Core.Bool.{Bool, true, false}
 use mathlib.Core.List.{List, [], _∷_}
 use Prim.Native.Nat.{ℕ, _-_}
 use lib.ListN.{getD}
-use Rattle.rules.specs.Refusal.{Outcome, gives, refuses, pairOutcome}
+use Rattle.rules.specs.Outcome.{Outcome, gives, refuses}
+use Rattle.rules.specs.Refusal.{pairOutcome}
 use Rattle.kinds.proofs.ToldLaws.{refusalBack, behind, refusalBack-told, behind-told}
 use Rattle.pair.specs.declared.Which.{Which}
 use Rattle.pair.specs.declared.Which.the-variants.{Either, First, Second}

@@ -18,13 +18,14 @@ use lib.Dec.{eqb}
 use lib.ListN.{length}
 use Rattle.range.specs.Below.{countBelow, allBelow}
 use Rattle.rules.specs.Pair.{minus}
-use Rattle.rules.specs.Refusal.{Outcome, gives, refuseAt, at}
+use Rattle.rules.specs.Word.{symbolAt}
+use Rattle.rules.specs.Outcome.{Outcome, gives, refuseAt}
 use Rattle.shape.specs.Symbols.{firstBad}
 
 pub record WordOf (q : ℕ) (w : List ℕ) : Type 0 where
   pub least : 1 ≤ q
   pub most : q ≤ 256
-  pub symbols : (i : ℕ) → i < length w → at w i < q
+  pub symbols : (i : ℕ) → i < length w → symbolAt w i < q
 
 pub record PairOf (q : ℕ) (a b : List ℕ) : Type 0 where
   pub first : WordOf q a
@@ -32,7 +33,7 @@ pub record PairOf (q : ℕ) (a b : List ℕ) : Type 0 where
   pub lengths : length b ≡ length a
 
 unfoldable pub tallyBefore : ℕ → List ℕ → ℕ → ℕ → ℕ → ℕ
-tallyBefore q w u k n = countBelow n (λ i. eqb (minus q (at w i) (at w (i + u))) k)
+tallyBefore q w u k n = countBelow n (λ i. eqb (minus q (symbolAt w i) (symbolAt w (i + u))) k)
 
 unfoldable pub tally : ℕ → List ℕ → ℕ → ℕ → ℕ
 tally q w u k = tallyBefore q w u k (length w - u)

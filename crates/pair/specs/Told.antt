@@ -6,7 +6,7 @@
 use mathlib.Core.Bool.{Bool, true, false}
 use mathlib.Core.List.{List, [], _∷_, _++_}
 use Prim.Native.Nat.{ℕ}
-use Rattle.rules.specs.Refusal.{Outcome, gives, refuses}
+use Rattle.rules.specs.Outcome.{Outcome, gives, refuses}
 use Rattle.kinds.specs.Told.{refusalTold}
 use Rattle.pair.specs.declared.Which.{Which}
 use Rattle.pair.specs.declared.Which.the-variants.{Either, First, Second}

@@ -8,7 +8,8 @@ ghost use mathlib.Core.Path.{_≡_};
 ghost use Prim.Native.Nat.{_<_, _≤_};
 ghost use lib.ListN.{length};
 ghost use Rattle.rules.specs.Pair.{minus};
-ghost use Rattle.rules.specs.Refusal.{at, pairOutcome};
+ghost use Rattle.rules.specs.Word.{symbolAt};
+ghost use Rattle.rules.specs.Refusal.{pairOutcome};
 ghost use Rattle.pair.specs.Tally.{WordOf, PairOf, tally, tallies, balancedAt, balanced, wordsOutcome};
 ghost use Rattle.pair.specs.Told.{pairedTold};
 
@@ -122,7 +123,7 @@ fn count(q: u64, word: &[u8], u: usize, k: u64) -> usize
 // The symbol at i minus the symbol at j, modulo q.
 fn difference(q: u64, word: &[u8], i: usize, j: usize) -> u64
     requires { ⌜ WordOf q (now word) × ((i < length (now word)) × (j < length (now word))) ⌝ }
-    ensures { λ r. ⌜ r ≡ minus q (at (now (word .entry)) i) (at (now (word .entry)) j) ⌝ }
+    ensures { λ r. ⌜ r ≡ minus q (symbolAt (now (word .entry)) i) (symbolAt (now (word .entry)) j) ⌝ }
 {
     shape::minus(q, word[i], word[j])
 }

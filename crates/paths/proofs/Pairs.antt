@@ -12,7 +12,7 @@ use native.Mathlib.Nat.{le-refl}
 use native.Mathlib.Decide.{ℕ-discrete}
 use native.Mathlib.Omega.{arith}
 use lib.Dec.{eqb}
-use Rattle.range.specs.Below.{one?}
+use Rattle.range.specs.Below.{oneIf}
 use Rattle.rules.specs.Path.{times}
 use Rattle.rules.specs.Word.{links}
 use Rattle.paths.proofs.Times.{Distinct, eqb-same, eqb-other, times-here, times-tail-le}
@@ -20,7 +20,7 @@ use Rattle.paths.proofs.Times.{distinct-tail, distinct-head}
 
 -- 1 at a and at b, 0 elsewhere
 unfoldable pub onPair : ℕ → ℕ → ℕ → ℕ
-onPair a b k = one? (eqb k a || eqb k b)
+onPair a b k = oneIf (eqb k a || eqb k b)
 
 pub onPair-left : (a b k : ℕ) → k ≡ a → onPair a b k ≡ 1
 unfolding onPair
@@ -38,13 +38,13 @@ pub onPair-le : (a b k : ℕ) → onPair a b k ≤ 1
 unfolding onPair
 onPair-le a b k = at (eqb k a || eqb k b)
   where
-    at : (t : Bool) → one? t ≤ 1
+    at : (t : Bool) → oneIf t ≤ 1
     at true = le-refl 1
     at false = zero-le
 
 pub links-swap : (a b : ℕ) (p : List ℕ) → links (onPair a b) p ≡ links (onPair b a) p
 unfolding onPair
-links-swap a b p = ap (λ (f : ℕ → ℕ). links f p) (fun-ext (λ k. ap one? (or-comm (eqb k a) (eqb k b))))
+links-swap a b p = ap (λ (f : ℕ → ℕ). links f p) (fun-ext (λ k. ap oneIf (or-comm (eqb k a) (eqb k b))))
 
 pub links-tail-le : (x : ℕ → ℕ) (u : ℕ) (p : List ℕ) → links x p ≤ links x (u ∷ p)
 unfolding links

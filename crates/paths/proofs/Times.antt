@@ -12,7 +12,7 @@ use native.Mathlib.Decide.{ℕ-discrete}
 use native.Mathlib.Omega.{arith}
 use lib.Dec.{T, eqb, eqb→eq, eqb-refl}
 use lib.ListN.{length, getD}
-use Rattle.range.specs.Below.{one?}
+use Rattle.range.specs.Below.{oneIf}
 use Rattle.rules.specs.Path.{times, keep, without}
 
 pub true-of : (b : Bool) → T b → b ≡ true
@@ -93,7 +93,7 @@ times-without-other x k (y ∷ xs) n = at (ℕ-discrete y x) (times-without-othe
   where
     at : Dec (y ≡ x) → times k (without x xs) ≡ times k xs → times k (without x (y ∷ xs)) ≡ times k (y ∷ xs)
     at (yes e) z = ap (times k) (without-here x y xs e) ∙ z ∙ sym (times-there k y xs (λ f. n (sym e ∙ f)))
-    at (no d) z = ap (times k) (without-there x y xs d) ∙ ap (λ (t : ℕ). one? (eqb y k) + t) z
+    at (no d) z = ap (times k) (without-there x y xs d) ∙ ap (λ (t : ℕ). oneIf (eqb y k) + t) z
 
 pub length-without : (x : ℕ) (xs : List ℕ) → length (without x xs) + times x xs ≡ length xs
 unfolding times without keep

@@ -6,7 +6,7 @@ use Prim.Native.Nat.{ℕ, zero, suc, _+_, _*_, _≤_, _<_, zero-le, suc-le-suc}
 use native.Mathlib.Nat.{mul-add, mul-zero, le-refl, suc-mul, not-suc-le-zero, le-of-suc-le-suc}
 use native.Mathlib.Numerals.{add-one}
 use native.Mathlib.Omega.{arith}
-use Rattle.range.specs.Below.{sumBelow, countBelow, one?}
+use Rattle.range.specs.Below.{sumBelow, countBelow, oneIf}
 
 pub sumBelow-suc : (n : ℕ) (f : ℕ → ℕ) → sumBelow (suc n) f ≡ sumBelow n f + f n
 unfolding sumBelow
@@ -41,30 +41,30 @@ sumBelow-le zero b f h = zero-le
 sumBelow-le (suc n) b f h =
     omega (arith, h zero (suc-le-suc zero-le), sumBelow-le n b (λ i. f (suc i)) (λ i l. h (suc i) (suc-le-suc l)), suc-mul n b)
 
-pub countBelow-suc : (n : ℕ) (f : ℕ → Bool) → countBelow (suc n) f ≡ countBelow n f + one? (f n)
+pub countBelow-suc : (n : ℕ) (f : ℕ → Bool) → countBelow (suc n) f ≡ countBelow n f + oneIf (f n)
 unfolding countBelow
-countBelow-suc n f = sumBelow-suc n (λ i. one? (f i))
+countBelow-suc n f = sumBelow-suc n (λ i. oneIf (f i))
 
 pub countBelow-cong : (n : ℕ) (f g : ℕ → Bool) → ((i : ℕ) → i < n → f i ≡ g i) → countBelow n f ≡ countBelow n g
 unfolding countBelow
-countBelow-cong n f g e = sumBelow-cong n (λ i. one? (f i)) (λ i. one? (g i)) (λ i h. ap one? (e i h))
+countBelow-cong n f g e = sumBelow-cong n (λ i. oneIf (f i)) (λ i. oneIf (g i)) (λ i h. ap oneIf (e i h))
 
-one?-le : (b : Bool) → one? b ≤ 1
+one?-le : (b : Bool) → oneIf b ≤ 1
 one?-le true = le-refl 1
 one?-le false = zero-le
 
 pub countBelow-le : (n : ℕ) (f : ℕ → Bool) → countBelow n f ≤ n
 unfolding countBelow
-countBelow-le n f = omega (arith, sumBelow-le n 1 (λ i. one? (f i)) (λ i _. one?-le (f i)))
+countBelow-le n f = omega (arith, sumBelow-le n 1 (λ i. oneIf (f i)) (λ i _. one?-le (f i)))
 
 -- one turn of a loop that adds up
 pub sumBelow-turn : (i s v : ℕ) (f : ℕ → ℕ) → s ≡ sumBelow i f → v ≡ f i → s + v ≡ sumBelow (i + 1) f
 sumBelow-turn i s v f p q = rw (add-one, sumBelow-suc i f, p, q)
 
 -- one turn of a loop that counts
-pub countBelow-turn : (i s v : ℕ) (f : ℕ → Bool) → s ≡ countBelow i f → v ≡ one? (f i) → s + v ≡ countBelow (i + 1) f
+pub countBelow-turn : (i s v : ℕ) (f : ℕ → Bool) → s ≡ countBelow i f → v ≡ oneIf (f i) → s + v ≡ countBelow (i + 1) f
 unfolding countBelow
-countBelow-turn i s v f p q = sumBelow-turn i s v (λ k. one? (f k)) p q
+countBelow-turn i s v f p q = sumBelow-turn i s v (λ k. oneIf (f k)) p q
 
 -- x of the summand at j lies below the whole sum
 pub sumBelow-lt : (n : ℕ) (f : ℕ → ℕ) (j x : ℕ) → j < n → x < f j → sumBelow j f + x < sumBelow n f

@@ -1,11 +1,12 @@
 -- What is said of all numbers below n, each by counting up from 0.
 -- Defines:  sumBelow n f      f 0 + .. + f (n - 1)
+--           oneIf b           1 for a test that is passed, else 0
 --           countBelow n f    how many i below n pass the test f
 --           allBelow n f      whether every i below n passes f
---           firstBelow n f    the first i below n that passes f, if there is one
+--           firstBelow n f    the first i below n that passes f, if there is one (zeroOr is its step)
 --           listBelow n f     f 0, .., f (n - 1)
 --           rowsBelow n f     the lists f 0, .., f (n - 1), end to end
--- Laws: proofs/Sums.antt, Tests.antt, Lists.antt.  Assumes nothing: these are definitions.
+-- Laws: proofs/Sums.antt, Tests.antt, FromOne.antt, Lists.antt.  Assumes nothing: these are definitions.
 use mathlib.Core.Bool.{Bool, true, false, _&&_}
 use mathlib.Core.List.{List, [], _∷_, _++_}
 use mathlib.Core.Option.{Option, none, some}
@@ -15,13 +16,12 @@ unfoldable pub sumBelow : ℕ → (ℕ → ℕ) → ℕ
 sumBelow zero f = zero
 sumBelow (suc n) f = f zero + sumBelow n (λ i. f (suc i))
 
--- 1 for a test that is passed
-abbrev pub one? : Bool → ℕ
-one? true = 1
-one? false = 0
+abbrev pub oneIf : Bool → ℕ
+oneIf true = 1
+oneIf false = 0
 
 unfoldable pub countBelow : ℕ → (ℕ → Bool) → ℕ
-countBelow n f = sumBelow n (λ i. one? (f i))
+countBelow n f = sumBelow n (λ i. oneIf (f i))
 
 unfoldable pub allBelow : ℕ → (ℕ → Bool) → Bool
 allBelow zero f = true

@@ -8,7 +8,9 @@ use Prim.Native.Nat.{ℕ}
 use lib.ListN.{length}
 use borrow.Author.Tests.{eq-eqb, ne-eqb}
 use Rattle.rules.specs.Shape.{inShape, phases, carriers}
-use Rattle.rules.specs.Refusal.{Outcome, gives, refuses, badSymbol, readOutcome, foundOr5, messageWith}
+use Rattle.rules.specs.Outcome.{Outcome, gives, refuses}
+use Rattle.rules.specs.Table.{badSymbol, messageWith}
+use Rattle.rules.specs.Refusal.{readOutcome, orNoWord}
 use Rattle.kinds.specs.declared.MessageNumber.{MessageNumber}
 use Rattle.kinds.proofs.ToldLaws.{refusalTold-inj, gives-not-refuses}
 use Rattle.shape.specs.Symbols.{firstBad}
@@ -30,7 +32,7 @@ module _ (h m : ℕ) (w : List ℕ) where
     unfolding readOutcome badSymbol
     read-symbol i e = rw (s, eq-eqb (length w) (carriers m) n, sym e)
 
-    pub read-search : none ≡ firstBad (phases h) w → foundOr5 (messageWith h m w) ≡ readOutcome h m w
+    pub read-search : none ≡ firstBad (phases h) w → orNoWord (messageWith h m w) ≡ readOutcome h m w
     unfolding readOutcome badSymbol
     read-search e = rw (s, eq-eqb (length w) (carriers m) n, sym e)
 

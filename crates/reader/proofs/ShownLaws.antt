@@ -19,7 +19,8 @@ use Rattle.rules.specs.Shape.{phases, carriers, pathsInUse, messageBits}
 use Rattle.rules.specs.Label.{labels, labelPath, coefficient, constant, labelOf, messageOf}
 use Rattle.rules.specs.Word.{wordAt, wordOf}
 use Rattle.rules.specs.Pair.{minus}
-use Rattle.rules.specs.Refusal.{at, messageWith}
+use Rattle.rules.specs.Word.{symbolAt}
+use Rattle.rules.specs.Table.{messageWith}
 use Rattle.words.proofs.Digits.{one-lt}
 use Rattle.words.proofs.Labels.{
   phases-pow,
@@ -35,7 +36,7 @@ use Rattle.words.proofs.Forms.{length-wordOf, wordOf-at}
 use Rattle.words.proofs.Readings.{Good, wordAt-zero, coefficient-read}
 use Rattle.words.proofs.Used.{used-good}
 use Rattle.words.proofs.Inject.{wordOf-inj}
-use Rattle.shape.proofs.Range.{InRange, inShape-range, range-inM, coefficientBits-le}
+use Rattle.rules.proofs.Range.{InRange, inShape-range, range-inM, coefficientBits-le}
 use Rattle.reader.specs.Shown.{Word, shown, shownUpTo, lowOf, labelWith}
 
 pub shown-lt : (h m : ℕ) (w : List ℕ) (k : ℕ) → shown h m w k < phases h
@@ -59,11 +60,11 @@ shownUpTo-small h m w k range b =
     (rw (phases-pow h k) (pow-mono {i = h * k} {j = 18}
     (omega (arith, coefficientBits-le h m range, mul-le-mul-left {m = k} {n = m + 1} h (omega arith)))))
 
-labelWith-is : (h m : ℕ) (w : List ℕ) (n : ℕ) → labelWith h m w n ≡ numberOf h m n (shown h m w) (at w 0)
+labelWith-is : (h m : ℕ) (w : List ℕ) (n : ℕ) → labelWith h m w n ≡ numberOf h m n (shown h m w) (symbolAt w 0)
 unfolding labelWith lowOf
 labelWith-is h m w n =
-    ap (λ (x : ℕ). n * phases h ^ (m + 1) + x) (shownUpTo-is h m w m (at w 0))
-    ∙ sym (numberOf-split h m n (shown h m w) (at w 0))
+    ap (λ (x : ℕ). n * phases h ^ (m + 1) + x) (shownUpTo-is h m w m (symbolAt w 0))
+    ∙ sym (numberOf-split h m n (shown h m w) (symbolAt w 0))
 
 pub labelWith-zero : (h m : ℕ) (w : List ℕ) → lowOf h m w ≡ labelWith h m w 0
 unfolding labelWith
@@ -77,20 +78,20 @@ module _ (h m : ℕ) (w : List ℕ) (word : Word h m w) where
   range : InRange h m
   range = inShape-range h m (word .shape)
 
-  pub first-lt : at w 0 < phases h
+  pub first-lt : symbolAt w 0 < phases h
   first-lt = word .symbols 0 (subst (λ (n : ℕ). 0 < n) (sym (word .long)) (pow-pos m))
 
   pub labelWith-lt : (n : ℕ) → n < pathsInUse m → labelWith h m w n < labels h m
   labelWith-lt n l =
       subst (λ (x : ℕ). x < labels h m) (sym (labelWith-is h m w n))
-      (numberOf-lt h (shown h m w) m n (at w 0) l (λ j _ _. shown-lt h m w j) first-lt)
+      (numberOf-lt h (shown h m w) m n (symbolAt w 0) l (λ j _ _. shown-lt h m w j) first-lt)
 
   -- a message's word shows the message's own label
   module _ (g : ℕ) (taken : g < 2 ^ messageBits h m) (has : wordOf h m g ≡ w) where
     abbrev l : ℕ
     l = labelOf h m g
 
-    symbol-is : (i : ℕ) → i < carriers m → wordAt h m l i ≡ at w i
+    symbol-is : (i : ℕ) → i < carriers m → wordAt h m l i ≡ symbolAt w i
     symbol-is i b = sym (wordOf-at h m g i b) ∙ ap (λ (v : List ℕ). getD v i 0) has
 
     path-used : labelPath h m l < pathsInUse m
@@ -103,13 +104,13 @@ module _ (h m : ℕ) (w : List ℕ) (word : Word h m w) where
         (coefficient-read h m l (used-good m (labelPath h m l) (range-inM h m range) path-used) k a b
         ∙ ap₂ (minus (phases h)) (symbol-is (2 ^ (m - k)) (one-lt m k a b)) (symbol-is 0 (pow-pos m)))
 
-    constant-is : at w 0 ≡ constant h l
+    constant-is : symbolAt w 0 ≡ constant h l
     constant-is = sym (symbol-is 0 (pow-pos m)) ∙ wordAt-zero h m l
 
     shows-label : labelWith h m w (labelPath h m l) ≡ l
     shows-label =
         labelWith-is h m w (labelPath h m l)
-        ∙ numberOf-cong h m (labelPath h m l) (shown h m w) (coefficient h m l) (at w 0) (constant h l) shown-is constant-is
+        ∙ numberOf-cong h m (labelPath h m l) (shown h m w) (coefficient h m l) (symbolAt w 0) (constant h l) shown-is constant-is
         ∙ numberOf-back h m l
 
     pub shows-message : messageOf h m (labelWith h m w (labelPath h m l)) ≡ g
@@ -117,7 +118,7 @@ module _ (h m : ℕ) (w : List ℕ) (word : Word h m w) where
 
   -- the test that a message has the word
   abbrev hasWord : ℕ → Bool
-  hasWord g = allBelow (carriers m) (λ i. eqb (wordAt h m (labelOf h m g) i) (at w i))
+  hasWord g = allBelow (carriers m) (λ i. eqb (wordAt h m (labelOf h m g) i) (symbolAt w i))
 
   hasWord-of : (g : ℕ) → wordOf h m g ≡ w → hasWord g ≡ true
   hasWord-of g e =

@@ -12,22 +12,22 @@ use Prim.Native.Nat.{ℕ, zero, suc, _+_, _-_, _*_, _^_, _<_}
 use lib.ListN.{length}
 use Rattle.rules.specs.Shape.{inShape, phases, carriers}
 use Rattle.rules.specs.Pair.{minus}
-use Rattle.rules.specs.Refusal.{at}
+use Rattle.rules.specs.Word.{symbolAt}
 
 pub record Word (h m : ℕ) (w : List ℕ) : Type 0 where
   pub shape : inShape h m ≡ true
   pub long : length w ≡ carriers m
-  pub symbols : (i : ℕ) → i < length w → at w i < phases h
+  pub symbols : (i : ℕ) → i < length w → symbolAt w i < phases h
 
 unfoldable pub shown : ℕ → ℕ → List ℕ → ℕ → ℕ
-shown h m w k = minus (phases h) (at w (2 ^ (m - k))) (at w 0)
+shown h m w k = minus (phases h) (symbolAt w (2 ^ (m - k))) (symbolAt w 0)
 
 unfoldable pub shownUpTo : ℕ → ℕ → List ℕ → ℕ → ℕ
 shownUpTo h m w zero = 0
 shownUpTo h m w (suc k) = shownUpTo h m w k * phases h + shown h m w (suc k)
 
 unfoldable pub lowOf : ℕ → ℕ → List ℕ → ℕ
-lowOf h m w = shownUpTo h m w m * phases h + at w 0
+lowOf h m w = shownUpTo h m w m * phases h + symbolAt w 0
 
 unfoldable pub labelWith : ℕ → ℕ → List ℕ → ℕ → ℕ
 labelWith h m w n = n * phases h ^ (m + 1) + lowOf h m w

@@ -2,7 +2,7 @@
 -- Defines:  readingTold r    the answer, as an outcome (Rattle.rules.specs.Refusal)
 -- The promise of `read` speaks of its answer through it.  Assumes nothing: this is a definition.
 use Prim.Native.Nat.{ℕ}
-use Rattle.rules.specs.Refusal.{Outcome, gives}
+use Rattle.rules.specs.Outcome.{Outcome, gives}
 use Rattle.kinds.specs.Told.{refusalTold}
 use Rattle.reader.specs.declared.Reading.{Reading}
 use Rattle.reader.specs.declared.Reading.the-variants.{Found, Refused}

@@ -9,7 +9,8 @@ ghost use Prim.Native.Nat.{_^_, _<_};
 ghost use lib.ListN.{length};
 ghost use Rattle.rules.specs.Shape.{messageBits};
 ghost use Rattle.rules.specs.Word.{wordOf};
-ghost use Rattle.rules.specs.Refusal.{readOutcome, foundOr5, messageWith};
+ghost use Rattle.rules.specs.Table.{messageWith};
+ghost use Rattle.rules.specs.Refusal.{readOutcome, orNoWord};
 ghost use Rattle.reader.specs.Told.{readingTold};
 ghost use Rattle.reader.specs.Shown.{Word, lowOf};
 
@@ -39,7 +40,7 @@ pub fn read(h: u32, m: u32, word: &[u8]) -> Reading
 // Tries the label that the symbols show with each path in use.
 fn search(h: u32, m: u32, word: &[u8]) -> Reading
     requires { ⌜ Word h m (now word) ⌝ }
-    ensures { λ r. ⌜ readingTold r ≡ foundOr5 (messageWith h m (now (word .entry))) ⌝ }
+    ensures { λ r. ⌜ readingTold r ≡ orNoWord (messageWith h m (now (word .entry))) ⌝ }
 {
     let step = shape::power(h * (m + 1));
     let uses = shape::power(shape::path_bits(m));

@@ -19,13 +19,13 @@ bool-of-iff false false e = refl
 
 module _ {X : Type 0} (n : ℕ) (noBetter : X → X → Bool) (value : ℕ → X) where
   best-le : (l k : ℕ) (v : X) (s t : Bool) → Best n noBetter value l v s → Best n noBetter value k v t → l ≤ k
-  best-le l k v s t p q = elim (decLt k l) [ yes h ↦ absurd (p .earliest k h (sym (q .its))) | no h ↦ le-of h ]
+  best-le l k v s t p q = elim (decLt k l) [ yes h ↦ absurd (p .earliest k h (sym (q .attained))) | no h ↦ le-of h ]
     where
       le-of : (k < l → ⊥) → l ≤ k
       le-of h = le-of-suc-le-suc (lt-of-not-le h)
 
   best-no-better : (l k : ℕ) (v w : X) (s t : Bool) → Best n noBetter value l v s → Best n noBetter value k w t → T (noBetter v w)
-  best-no-better l k v w s t p q = subst (λ (x : X). T (noBetter x w)) (sym (p .its)) (q .best l (p .inside))
+  best-no-better l k v w s t p q = subst (λ (x : X). T (noBetter x w)) (sym (p .attained)) (q .best l (p .inside))
 
   best-label : (l k : ℕ) (v : X) (s t : Bool) → Best n noBetter value l v s → Best n noBetter value k v t → l ≡ k
   best-label l k v s t p q = le-antisymm (best-le l k v s t p q) (best-le k l v t s q p)
@@ -48,7 +48,7 @@ module _ {X : Type 0} (n : ℕ) (noBetter : X → X → Bool) (value : ℕ → X
       Best n noBetter value l (value l) true
   best-of-tests l k hl hk ne e self all before = record {
     inside = hl;
-    its = refl;
+    attained = refl;
     best = λ j h. subst T (sym (allBelow-at n (λ i. noBetter (value i) (value l)) all j h)) tt;
     earliest = λ j h q. T-not (noBetter (value l) (value j))
         (subst T (sym (allBelow-at l (λ i. not (noBetter (value l) (value i))) before j h)) tt)
@@ -60,7 +60,7 @@ module _ {X : Type 0} (n : ℕ) (noBetter : X → X → Bool) (value : ℕ → X
   pub best-of-equal : (v : X) → 1 < n → ((k : ℕ) → value k ≡ v) → T (noBetter v v) → Best n noBetter value 0 v true
   best-of-equal v two all self = record {
     inside = le-of-suc-le-suc (native.Mathlib.Nat.le-step two);
-    its = sym (all 0);
+    attained = sym (all 0);
     best = λ k _. subst (λ (x : X). T (noBetter x v)) (sym (all k)) self;
     earliest = λ k h. absurd (not-suc-le-zero h);
     tie = (λ _. ∣ (1, two, native.Mathlib.Nat.suc-ne-zero 0, all 1) ∣₁, λ _. refl);

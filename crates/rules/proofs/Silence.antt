@@ -10,10 +10,11 @@ use lib.Dec.{eqb, lit≤}
 use lib.IntN.{ℤ, pos}
 use lib.ListN.{getD, replicate}
 use lib.Signed.{leZ}
+use Rattle.range.specs.Signed.{sumℤ, negatedIf}
 use Rattle.rules.specs.Shape.{carriers, messageBits, pathBits}
 use Rattle.rules.specs.Label.{labels, labelOf}
 use Rattle.rules.specs.Word.{wordAt}
-use Rattle.rules.specs.Soft.{sumℤ, signed, heard, heardTwo, heardFour, correlation, softLength}
+use Rattle.rules.specs.Soft.{heard, heardTwo, heardFour, correlation, softLength}
 use Rattle.rules.specs.Best.{Greatest}
 use Rattle.rules.proofs.BestLaws.{best-of-equal}
 
@@ -26,7 +27,7 @@ zeros-at zero i = refl
 zeros-at (suc n) zero = refl
 zeros-at (suc n) (suc i) = zeros-at n i
 
-signed-zero : (b : Bool) → signed b (pos 0) ≡ pos 0
+signed-zero : (b : Bool) → negatedIf b (pos 0) ≡ pos 0
 signed-zero true = refl
 signed-zero false = refl
 

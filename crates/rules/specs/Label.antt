@@ -5,18 +5,19 @@
 --           labelPath h m l       the path number of label l, which stands highest
 --           coefficient h m l k   c_k of label l, k in 1..m, c_1 the highest
 --           constant h l          c of label l, the lowest
---           rowCoefficient h m l r    what row r of the generator is multiplied by: c for row 0, c_r for row r
---           labelAt h m l         the label itself: path number, c_1, .., c_m, c
+--           rowCoefficient h m l r    what multiplies row r of the generator: c for row 0, c_r for row r
+--           labelParts h m l      the label itself: path number, c_1, .., c_m, c
 --           labelOf h m g         the label number of message g
 --           messageOf h m l       the message number of label l
+-- Laws: crate words (the numbers are in label order, and a label number and its parts determine each other).
 -- Assumes nothing: these are definitions.
 use mathlib.Core.List.{List, [], _∷_, _++_}
 use Prim.Native.Nat.{ℕ, zero, suc, _+_, _-_, _/_, _%_, _^_}
 use Rattle.range.specs.Below.{listBelow}
-use Rattle.rules.specs.Shape.{phases, messageBits}
+use Rattle.rules.specs.Shape.{phases, messages}
 
 abbrev pub labels : ℕ → ℕ → ℕ
-labels h m = 2 ^ messageBits h m
+labels h m = messages h m
 
 unfoldable pub labelPath : ℕ → ℕ → ℕ → ℕ
 labelPath h m l = l / phases h ^ (m + 1)
@@ -31,8 +32,8 @@ unfoldable pub rowCoefficient : ℕ → ℕ → ℕ → ℕ → ℕ
 rowCoefficient h m l zero = constant h l
 rowCoefficient h m l (suc k) = coefficient h m l (suc k)
 
-unfoldable pub labelAt : ℕ → ℕ → ℕ → List ℕ
-labelAt h m l = labelPath h m l ∷ listBelow m (λ k. coefficient h m l (suc k)) ++ (constant h l ∷ [])
+unfoldable pub labelParts : ℕ → ℕ → ℕ → List ℕ
+labelParts h m l = labelPath h m l ∷ listBelow m (λ k. coefficient h m l (suc k)) ++ (constant h l ∷ [])
 
 -- each coefficient stands in h plain binary bits, so the two numbers are the same
 unfoldable pub labelOf : ℕ → ℕ → ℕ → ℕ

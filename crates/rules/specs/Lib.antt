@@ -9,4 +9,7 @@ pub mod Distance
 pub mod Soft
 pub mod Best
 pub mod Spectrum
+pub mod Outcome
+pub mod Table
 pub mod Refusal
+pub mod Known

@@ -1,16 +1,18 @@
 -- The pair check: 01 "The partner and the pair check".
 -- Words are taken as functions of the place.
 -- Defines:  minus q a b            a - b modulo q, for a and b below q
---           phaseCount h n a u k   how many places i with i + u < n have symbol i minus symbol i + u equal to k
---           pairCount              the same, over both words together
---           golayPair h m a b      whether, for each shift u from 1 to N - 1 and each phase k,
---                                  the count for k equals the count for k + 2^(h-1)
--- Assumes nothing: these are definitions.
+--           phaseCount h n a u k   how many places i with i + u < n have symbol i minus symbol i + u equal to k modulo 2^h
+--           pairCount h n a b u k  the same, over both words together
+--           GolayPair h m a b      for each shift u from 1 to N - 1 and each phase k the count for k equals the count
+--                                  for k + 2^(h-1)
+--           golayPair h m a b      the test of that
+-- Law: golayPair-iff in crate pair (the test is the claim).  Assumes nothing: these are definitions.
+use mathlib.Core.Path.{_≡_}
 use mathlib.Core.Bool.{Bool}
-use Prim.Native.Nat.{ℕ, suc, _+_, _-_, _%_}
+use Prim.Native.Nat.{ℕ, suc, _+_, _-_, _%_, _≤_, _<_}
 use lib.Dec.{eqb}
 use Rattle.range.specs.Below.{countBelow, allBelow}
-use Rattle.rules.specs.Shape.{phases, half, carriers}
+use Rattle.rules.specs.Shape.{phases, halfTurn, carriers}
 
 unfoldable pub minus : ℕ → ℕ → ℕ → ℕ
 minus q a b = (a + (q - b)) % q
@@ -21,8 +23,13 @@ phaseCount h n a u k = countBelow (n - u) (λ i. eqb (minus (phases h) (a i) (a 
 unfoldable pub pairCount : ℕ → ℕ → (ℕ → ℕ) → (ℕ → ℕ) → ℕ → ℕ → ℕ
 pairCount h n a b u k = phaseCount h n a u k + phaseCount h n b u k
 
+abbrev pub GolayPair : ℕ → ℕ → (ℕ → ℕ) → (ℕ → ℕ) → Type 0
+GolayPair h m a b =
+    (u : ℕ) → 1 ≤ u → u < carriers m → (k : ℕ) → k < phases h →
+    pairCount h (carriers m) a b u k ≡ pairCount h (carriers m) a b u (k + halfTurn h)
+
 unfoldable pub golayPair : ℕ → ℕ → (ℕ → ℕ) → (ℕ → ℕ) → Bool
 golayPair h m a b =
     allBelow (carriers m - 1) λ u.
     allBelow (phases h) λ k.
-    eqb (pairCount h (carriers m) a b (suc u) k) (pairCount h (carriers m) a b (suc u) (k + half h))
+    eqb (pairCount h (carriers m) a b (suc u) k) (pairCount h (carriers m) a b (suc u) (k + halfTurn h))

@@ -2,13 +2,14 @@
 -- Defines:  greatestH, greatestM     the ends of the ranges of h and m; they stand here alone
 --           pathBits m               w, the bits of a path number; 01's table stands here alone
 --           inH h, inM m, inShape    whether h is in 1..greatestH, m in 2..greatestM, both
---           phases h, half h         2^h and 2^(h-1)
+--           phases h, halfTurn h     2^h phases, and half as many, 2^(h-1)
 --           carriers m               N = 2^m
 --           pathsInUse m             2^w
 --           messageBits h m          w + h (m + 1)
+--           messages h m             how many message numbers there are: 2^(w + h (m + 1))
 -- Assumes nothing: these are definitions.
 use mathlib.Core.Bool.{Bool, _&&_}
-use mathlib.Core.List.{List, [], _∷_}
+use mathlib.Core.List.{[], _∷_}
 use Prim.Native.Nat.{ℕ, _+_, _-_, _*_, _^_}
 use lib.Dec.{leb}
 use lib.ListN.{getD}
@@ -35,8 +36,8 @@ inShape h m = inH h && inM m
 abbrev pub phases : ℕ → ℕ
 phases h = 2 ^ h
 
-abbrev pub half : ℕ → ℕ
-half h = 2 ^ (h - 1)
+abbrev pub halfTurn : ℕ → ℕ
+halfTurn h = 2 ^ (h - 1)
 
 abbrev pub carriers : ℕ → ℕ
 carriers m = 2 ^ m
@@ -46,3 +47,6 @@ pathsInUse m = 2 ^ pathBits m
 
 abbrev pub messageBits : ℕ → ℕ → ℕ
 messageBits h m = pathBits m + h * (m + 1)
+
+abbrev pub messages : ℕ → ℕ → ℕ
+messages h m = 2 ^ messageBits h m

@@ -1,34 +1,26 @@
 -- Soft values and the correlation with a word: 01 "What the receiver hears".
--- Defines:  sumℤ n f               f 0 + .. + f (n - 1)
---           signed b z             z, negated where b is true
---           softLength h m         N values for h = 1, 2N for h = 2
+-- Octary soft decoding is refused 6 before any of these is asked; for every h but 1 they say what h = 2 says.
+-- Defines:  softLength h m         N values for h = 1, 2N for h = 2
 --           heardTwo y s           what symbol s adds for h = 1: y, negated for symbol 1
 --           heardFour re im s      for h = 2: re, im, -re, -im for symbols 0, 1, 2, 3, which stand at 1, j, -1, -j
 --           heard h ys i s         what symbol s adds at place i; for h = 2 the real part stands before the imaginary
 --           correlation h m ys l   the sum over places for label l's word; nothing is divided
 -- Assumes nothing: these are definitions.
-use mathlib.Core.Bool.{Bool, true, false, cond}
+use mathlib.Core.Bool.{cond}
 use mathlib.Core.List.{List}
 use Prim.Native.Nat.{ℕ, zero, suc, _+_, _*_}
 use lib.Dec.{eqb}
-use lib.IntN.{ℤ, pos, negℤ, _+ℤ_}
+use lib.IntN.{ℤ, pos, negℤ}
 use lib.ListN.{getD}
+use Rattle.range.specs.Signed.{sumℤ, negatedIf}
 use Rattle.rules.specs.Shape.{carriers}
 use Rattle.rules.specs.Word.{wordAt}
-
-unfoldable pub sumℤ : ℕ → (ℕ → ℤ) → ℤ
-sumℤ zero f = pos 0
-sumℤ (suc n) f = f zero +ℤ sumℤ n (λ i. f (suc i))
-
-abbrev pub signed : Bool → ℤ → ℤ
-signed true z = negℤ z
-signed false z = z
 
 abbrev pub softLength : ℕ → ℕ → ℕ
 softLength h m = cond (eqb h 1) (carriers m) (2 * carriers m)
 
 abbrev pub heardTwo : ℤ → ℕ → ℤ
-heardTwo y s = signed (eqb s 1) y
+heardTwo y s = negatedIf (eqb s 1) y
 
 abbrev pub heardFour : ℤ → ℤ → ℕ → ℤ
 heardFour re im zero = re

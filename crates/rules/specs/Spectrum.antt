@@ -12,9 +12,9 @@ use lib.Dec.{eqb}
 use lib.IntN.{ℤ, pos, negsuc, _+ℤ_, _-ℤ_}
 use lib.Signed.{leZ}
 use Rattle.range.specs.Below.{sumBelow}
+use Rattle.range.specs.Signed.{sumℤ, negatedIf}
 use Rattle.rules.specs.Shape.{carriers}
 use Rattle.rules.specs.Place.{digit}
-use Rattle.rules.specs.Soft.{sumℤ, signed}
 
 abbrev pub accepted : ℤ → Bool
 accepted z = leZ (negsuc 32767) z && leZ z (pos 32767)
@@ -26,9 +26,10 @@ unfoldable pub shared : ℕ → ℕ → ℕ → ℕ
 shared m i j = sumBelow m (λ k. digit m i (suc k) * digit m j (suc k))
 
 unfoldable pub spectrumAt : ℕ → (ℕ → ℤ) → ℕ → ℤ
-spectrumAt m y j = sumℤ (carriers m) (λ i. signed (odd (shared m i j)) (y i))
+spectrumAt m y j = sumℤ (carriers m) (λ i. negatedIf (odd (shared m i j)) (y i))
 
--- the pair of place i differs from it in x_k alone, 2^(m-k) away: the sum goes where x_k = 0, the first less the second where x_k = 1
+-- the two places of a pair differ in x_k alone, so they lie 2^(m-k) apart, and the first is the one with x_k = 0:
+-- the sum goes there, and the first less the second goes where x_k = 1
 unfoldable pub stage : ℕ → ℕ → (ℕ → ℤ) → ℕ → ℤ
 stage m k y i = cond (eqb (digit m i k) 0) (y i +ℤ y (i + 2 ^ (m - k))) (y (i - 2 ^ (m - k)) -ℤ y i)
 

@@ -1,3 +1,3 @@
--- Bounds that a shape in range gives, and laws of the search through a word.
-pub mod Range
+-- Laws of the tests and numbers of a shape, and of the search through a word.
+pub mod Powers
 pub mod SymbolLaws

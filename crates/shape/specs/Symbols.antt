@@ -7,7 +7,7 @@ use Prim.Native.Nat.{ℕ}
 use lib.Dec.{leb}
 use lib.ListN.{length}
 use Rattle.range.specs.Below.{firstBelow}
-use Rattle.rules.specs.Refusal.{at}
+use Rattle.rules.specs.Word.{symbolAt}
 
 abbrev pub firstBad : ℕ → List ℕ → Option ℕ
-firstBad q w = firstBelow (length w) (λ i. leb q (at w i))
+firstBad q w = firstBelow (length w) (λ i. leb q (symbolAt w i))

@@ -11,7 +11,7 @@ ghost use lib.Dec.{ltb};
 ghost use Rattle.rules.specs.Shape.{pathBits, inShape};
 ghost use Rattle.rules.specs.Label.{labelOf, messageOf};
 ghost use Rattle.rules.specs.Pair.{minus};
-ghost use Rattle.rules.specs.Refusal.{badMessage};
+ghost use Rattle.rules.specs.Table.{badMessage};
 ghost use Rattle.kinds.specs.Told.{searchTold};
 ghost use Rattle.shape.specs.Symbols.{firstBad};
 

@@ -10,7 +10,7 @@ use lib.ListN.{length, getD}
 use lib.Pow.{pow-pos}
 use Rattle.range.specs.Below.{sumBelow}
 use Rattle.range.proofs.Lists.{length-listBelow, listBelow-at}
-use Rattle.rules.specs.Shape.{phases, half, carriers}
+use Rattle.rules.specs.Shape.{phases, halfTurn, carriers}
 use Rattle.rules.specs.Place.{digit, generatorAt}
 use Rattle.rules.specs.Path.{headOf, pathAt}
 use Rattle.rules.specs.Label.{labelPath, coefficient, constant, rowCoefficient, labelOf}
@@ -25,13 +25,13 @@ unfolding partnerAt
 partnerAt-lt h m l i = mod-lt _ (pow-pos h)
 
 pub formAt-rows : (h m l i : ℕ) → formAt h m l i ≡
-    half h * links (digit m i) (pathAt m (labelPath h m l))
+    halfTurn h * links (digit m i) (pathAt m (labelPath h m l))
     + sumBelow (m + 1) (λ r. rowCoefficient h m l r * generatorAt m r i)
 unfolding formAt sumBelow rowCoefficient generatorAt
 formAt-rows h m l i = rw add-one (omega arith)
 
 pub partnerAt-form : (h m l i : ℕ) → partnerAt h m l i ≡
-    (formAt h m l i + half h * digit m i (headOf (pathAt m (labelPath h m l)))) % phases h
+    (formAt h m l i + halfTurn h * digit m i (headOf (pathAt m (labelPath h m l)))) % phases h
 unfolding partnerAt wordAt
 partnerAt-form h m l i = mod-add-mod (formAt h m l i) (phases h) _
 

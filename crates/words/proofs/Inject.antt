@@ -14,9 +14,9 @@ use lib.Dec.{T, eqb}
 use lib.ListN.{getD}
 use lib.Pow.{pow-pos}
 use borrow.Author.Tests.{eqb-true, eqb-false}
-use Rattle.range.specs.Below.{one?}
+use Rattle.range.specs.Below.{oneIf}
 use Rattle.range.proofs.Sums.{sumBelow-cong}
-use Rattle.rules.specs.Shape.{phases, half, carriers, messageBits, inM}
+use Rattle.rules.specs.Shape.{phases, halfTurn, carriers, messageBits, inM}
 use Rattle.rules.specs.Place.{digit}
 use Rattle.rules.specs.Path.{pathAt}
 use Rattle.rules.specs.Label.{labels, labelPath, coefficient, constant, labelOf, messageOf}
@@ -46,24 +46,24 @@ double-mod : (c x : ℕ) → 0 < c → c * x % (2 * c) ≡ x % 2 * c
 double-mod c x p =
     rw (mul-comm c x) (mod-mul (x * c) (omega arith) p ∙ rw (mul-div-cancel x p, mul-mod-left) (add-zero _))
 
-pub phases-half : (h : ℕ) → 1 ≤ h → phases h ≡ 2 * half h
+pub phases-half : (h : ℕ) → 1 ≤ h → phases h ≡ 2 * halfTurn h
 phases-half h b =
     let e : h ≡ suc (h - 1) = omega arith in
     ap (λ (n : ℕ). 2 ^ n) e ∙ pow-succ' 2 (h - 1)
 
-half-mod : (h x : ℕ) → 1 ≤ h → half h * x % phases h ≡ x % 2 * half h
-half-mod h x b = rw (phases-half h b) (double-mod (half h) x (pow-pos (h - 1)))
+half-mod : (h x : ℕ) → 1 ≤ h → halfTurn h * x % phases h ≡ x % 2 * halfTurn h
+half-mod h x b = rw (phases-half h b) (double-mod (halfTurn h) x (pow-pos (h - 1)))
 
-half-parity : (h x y : ℕ) → 1 ≤ h → half h * x % phases h ≡ half h * y % phases h → x % 2 ≡ y % 2
+half-parity : (h x y : ℕ) → 1 ≤ h → halfTurn h * x % phases h ≡ halfTurn h * y % phases h → x % 2 ≡ y % 2
 half-parity h x y b e =
-    eq-of-mul-eq-mul-right (half h) (pow-pos (h - 1)) (x % 2) (y % 2) (sym (half-mod h x b) ∙ e ∙ half-mod h y b)
+    eq-of-mul-eq-mul-right (halfTurn h) (pow-pos (h - 1)) (x % 2) (y % 2) (sym (half-mod h x b) ∙ e ∙ half-mod h y b)
 
 module _ (m a b : ℕ) (la : 1 ≤ a) (lb : a < b) (lm : b ≤ m) where
   digit-onPair : (j : ℕ) → j ≤ m → digit m (twoAt m a b) j ≡ onPair a b j
   unfolding onPair
   digit-onPair j l = at (eqb j a) (eqb j b) refl refl
     where
-      at : (s t : Bool) → eqb j a ≡ s → eqb j b ≡ t → digit m (twoAt m a b) j ≡ one? (s || t)
+      at : (s t : Bool) → eqb j a ≡ s → eqb j b ≡ t → digit m (twoAt m a b) j ≡ oneIf (s || t)
       at true t p q = rw (eqb-true j a p) (digit-two-first m a b la lb lm)
       at false true p q = rw (eqb-true j b q) (digit-two-second m a b la lb lm)
       at false false p q = digit-two-off m a b la lb lm j l (eqb-false j a p) (eqb-false j b q)
@@ -76,7 +76,7 @@ module _ (m a b : ℕ) (la : 1 ≤ a) (lb : a < b) (lm : b ≤ m) where
 abbrev linked : ℕ → ℕ → ℕ → ℕ → ℕ
 linked h m l i = links (digit m i) (pathAt m (labelPath h m l))
 
-wordAt-parts : (h m l i : ℕ) → wordAt h m l i ≡ (half h * linked h m l i + (linear h m l i + constant h l)) % phases h
+wordAt-parts : (h m l i : ℕ) → wordAt h m l i ≡ (halfTurn h * linked h m l i + (linear h m l i + constant h l)) % phases h
 unfolding wordAt formAt
 wordAt-parts h m l i = rw add-assoc
 
@@ -101,10 +101,10 @@ module _ (m : ℕ) (range : T (inM m)) where
     same-parity : (i : ℕ) → i < carriers m → linked h m l i % 2 ≡ linked h m k i % 2
     same-parity i b =
         let s : ℕ = linear h m k i + constant h k in
-        let e : (half h * linked h m l i + s) % phases h ≡ (half h * linked h m k i + s) % phases h =
+        let e : (halfTurn h * linked h m l i + s) % phases h ≡ (halfTurn h * linked h m k i + s) % phases h =
         rw (same-linear i, same-constant) at (sym (wordAt-parts h m l i) ∙ same i b ∙ wordAt-parts h m k i) in
         half-parity h (linked h m l i) (linked h m k i) pos
-        (mod-cancel (phases h) (half h * linked h m l i) (half h * linked h m k i) s (pow-pos h) e)
+        (mod-cancel (phases h) (halfTurn h * linked h m l i) (halfTurn h * linked h m k i) s (pow-pos h) e)
 
     same-links : (a b : ℕ) → 1 ≤ a → a < b → b ≤ m →
         links (onPair a b) (pathAt m (labelPath h m l)) % 2 ≡ links (onPair a b) (pathAt m (labelPath h m k)) % 2

@@ -12,7 +12,7 @@ use Rattle.range.specs.Below.{listBelow}
 use Rattle.range.proofs.Lists.{listBelow-suc, listBelow-cong}
 use Rattle.rules.specs.Shape.{phases}
 use Rattle.rules.specs.Path.{Before, here, later}
-use Rattle.rules.specs.Label.{coefficient, constant, labelAt}
+use Rattle.rules.specs.Label.{coefficient, constant, labelParts}
 use Rattle.words.proofs.Labels.{labelPath-zero, labelPath-suc, coefficient-suc, coefficient-last}
 
 -- l to base 2^h: all but the n lowest digits as one number, then those
@@ -27,12 +27,12 @@ coefficients-suc h m l =
     let g : ℕ → ℕ = λ k. coefficient h m (l / phases h) (suc k) in
     listBelow-suc m f ∙ rw (coefficient-last h m l, listBelow-cong m f g (λ k b. coefficient-suc h m l (suc k) b))
 
-labelAt-suc : (h m l : ℕ) → labelAt h (suc m) l ≡ labelAt h m (l / phases h) ++ (constant h l ∷ [])
-unfolding labelAt
+labelAt-suc : (h m l : ℕ) → labelParts h (suc m) l ≡ labelParts h m (l / phases h) ++ (constant h l ∷ [])
+unfolding labelParts
 labelAt-suc h m l = rw (labelPath-suc, coefficients-suc h m l)
 
-labelAt-numeral : (h m l : ℕ) → labelAt h m l ≡ numeral h (suc m) l
-unfolding numeral labelAt constant listBelow
+labelAt-numeral : (h m l : ℕ) → labelParts h m l ≡ numeral h (suc m) l
+unfolding numeral labelParts constant listBelow
 labelAt-numeral h zero l = rw labelPath-zero
 labelAt-numeral h (suc m) l =
     labelAt-suc h m l ∙ ap (λ (xs : List ℕ). xs ++ (l % phases h ∷ [])) (labelAt-numeral h m (l / phases h))
@@ -65,5 +65,5 @@ numeral-order h (suc n) l k b =
         let e : l / phases h ≡ k / phases h = omega (arith, shr-mono {a = l} {b = k} h (omega arith)) in
         rw e (before-same (numeral h n (k / phases h)) (here (remainder-lt (phases h) l k b e)))
 
-pub label-order : (h m l k : ℕ) → l < k → Before (labelAt h m l) (labelAt h m k)
+pub label-order : (h m l k : ℕ) → l < k → Before (labelParts h m l) (labelParts h m k)
 label-order h m l k b = rw (labelAt-numeral h m l, labelAt-numeral h m k) (numeral-order h (suc m) l k b)

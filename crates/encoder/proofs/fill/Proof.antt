@@ -7,9 +7,10 @@ use native.Mathlib.Omega.{arith}
 use lib.ListN.{length}
 use borrow.Author.Needs.{needs}
 use Rattle.range.specs.Below.{listBelow}
-use Rattle.rules.specs.Shape.{phases, half, carriers}
+use Rattle.rules.specs.Shape.{phases, halfTurn, carriers}
 use Rattle.words.proofs.Labels.{labelPath-lt}
-use Rattle.shape.proofs.Range.{InRange, inShape-range, power-is, phases-least, phases-most, carriers-most}
+use Rattle.rules.proofs.Range.{InRange, inShape-range, phases-least, phases-most, carriers-most}
+use Rattle.shape.proofs.Powers.{power-is}
 use Rattle.encoder.specs.Steps.{pathRow, symbolOf}
 use Rattle.encoder.proofs.Formula.{Held, held-cells, held-small, held-walk, held-symbols, phases-by-two}
 use Rattle.encoder.proofs.fill.Statement.{statement}

@@ -10,11 +10,12 @@ use denote.Ref.{now}
 use borrow.Author.Needs.{needs}
 use borrow.Author.Tests.{not-true, not-false, leb-false}
 use Rattle.range.specs.Below.{listBelow}
-use Rattle.rules.specs.Shape.{inShape, carriers, half}
+use Rattle.rules.specs.Shape.{inShape, carriers, halfTurn}
 use Rattle.rules.specs.Label.{labels}
-use Rattle.rules.specs.Refusal.{badMessage}
+use Rattle.rules.specs.Table.{badMessage}
 use Rattle.words.proofs.Labels.{labelOf-lt}
-use Rattle.shape.proofs.Range.{InRange, inShape-range, power-is, takes-tells}
+use Rattle.rules.proofs.Range.{InRange, inShape-range}
+use Rattle.shape.proofs.Powers.{power-is, takes-tells}
 use Rattle.encoder.specs.Steps.{liftedAt}
 use Rattle.encoder.proofs.SentLaws.{send-shape, send-length, send-message, send-allowed, sent-refused, sent-done}
 use Rattle.encoder.proofs.send.Statement.{statement}
@@ -102,7 +103,7 @@ returns-4 c =
     sent-done (start .args .h) (start .args .m) (start .args .message .0) _ _ _
     (send-allowed (start .args .h) (start .args .m) _ _ (shaped (at-else .before .before .before .before)) (long (at-else .before .before)) (taken at-else))
     (at-fill .fill .ensures
-    ∙ ap (λ (l : ℕ). listBelow (carriers (start .args .m)) (liftedAt (start .args .h) (start .args .m) l (start .args .lift * half (start .args .h))))
+    ∙ ap (λ (l : ℕ). listBelow (carriers (start .args .m)) (liftedAt (start .args .h) (start .args .m) l (start .args .lift * halfTurn (start .args .h))))
     (at-fill .before .before .label-of .ensures))
 
 pub send-spec : {M : Type 1} → statement M

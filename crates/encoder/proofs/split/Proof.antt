@@ -9,7 +9,8 @@ use borrow.Author.Needs.{needs}
 use Rattle.rules.specs.Shape.{phases, pathsInUse}
 use Rattle.rules.specs.Label.{labelPath}
 use Rattle.words.proofs.Labels.{labelPath-lt}
-use Rattle.shape.proofs.Range.{InRange, inShape-range, power-is, phases-least, phases-most, pathsInUse-most}
+use Rattle.rules.proofs.Range.{InRange, inShape-range, phases-least, phases-most, pathsInUse-most}
+use Rattle.shape.proofs.Powers.{power-is}
 use Rattle.encoder.proofs.Divide.{Taken, taken-first, taken-step, taken-path, taken-rows}
 use Rattle.encoder.proofs.split.Statement.{statement}
 use Rattle.encoder.proofs.split.Tie as tie

@@ -7,7 +7,8 @@ use lib.Pow.{pow-pos, pow-mono}
 use borrow.Author.Needs.{needs}
 use borrow.Author.Tests.{not-true, not-false}
 use Rattle.rules.specs.Shape.{phases, carriers, inShape}
-use Rattle.shape.proofs.Range.{power-is, InRange, inShape-range}
+use Rattle.rules.proofs.Range.{InRange, inShape-range}
+use Rattle.shape.proofs.Powers.{power-is}
 use Rattle.pair.proofs.Outcomes.{outcome-shape, outcome-first-length, outcome-second-length, outcome-words}
 use Rattle.pair.proofs.check.Statement.{statement}
 use Rattle.pair.proofs.check.Tie as tie

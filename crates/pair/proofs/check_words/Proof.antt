@@ -4,7 +4,7 @@ use mathlib.Core.Path.{_≡_, sym, _∙_, ap}
 use mathlib.Core.Option.{none}
 use denote.Ref.{now}
 use borrow.Author.Needs.{needs}
-use Rattle.rules.specs.Refusal.{gives}
+use Rattle.rules.specs.Outcome.{gives}
 use Rattle.kinds.specs.Told.{searchTold}
 use Rattle.shape.specs.Symbols.{firstBad}
 use Rattle.pair.specs.Tally.{}

@@ -7,7 +7,7 @@ use lib.ListN.{length, replicate}
 use lib.Seq.{length-take-le}
 use denote.Ref.{now}
 use borrow.Author.Needs.{needs}
-use Rattle.shape.proofs.Range.{inShape-range, carriers-most}
+use Rattle.rules.proofs.Range.{inShape-range, carriers-most}
 use Rattle.reader.proofs.is_word.Statement.{statement}
 use Rattle.reader.proofs.is_word.Tie as tie
 

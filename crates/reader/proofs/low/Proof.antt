@@ -10,9 +10,10 @@ use lib.Pow.{pow-pos}
 use denote.Ref.{now}
 use borrow.Author.Needs.{needs}
 use Rattle.rules.specs.Shape.{phases, carriers}
-use Rattle.rules.specs.Refusal.{at}
+use Rattle.rules.specs.Word.{symbolAt}
 use Rattle.words.proofs.Digits.{one-lt}
-use Rattle.shape.proofs.Range.{InRange, inShape-range, power-is, phases-least, phases-most}
+use Rattle.rules.proofs.Range.{InRange, inShape-range, phases-least, phases-most}
+use Rattle.shape.proofs.Powers.{power-is}
 use Rattle.reader.specs.Shown.{shown, shownUpTo, lowOf}
 use Rattle.reader.proofs.ShownLaws.{shown-lt, shownUpTo-small, first-lt}
 use Rattle.reader.proofs.low.Statement.{statement}

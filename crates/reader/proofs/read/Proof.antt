@@ -11,7 +11,7 @@ use borrow.Author.Tests.{not-true, not-false}
 use Rattle.rules.specs.Shape.{inShape, phases, carriers}
 use Rattle.kinds.specs.Told.{searchTold}
 use Rattle.shape.specs.Symbols.{firstBad}
-use Rattle.shape.proofs.Range.{power-phases, power-carriers}
+use Rattle.shape.proofs.Powers.{power-phases, power-carriers}
 use Rattle.shape.proofs.SymbolLaws.{firstBad-none}
 use Rattle.reader.proofs.Outcomes.{read-shape, read-length, read-symbol, read-search}
 use Rattle.reader.proofs.read.Statement.{statement}

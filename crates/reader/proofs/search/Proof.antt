@@ -14,9 +14,11 @@ use borrow.Author.Needs.{needs}
 use Rattle.rules.specs.Shape.{phases, pathsInUse, messageBits}
 use Rattle.rules.specs.Label.{labels, messageOf}
 use Rattle.rules.specs.Word.{wordOf}
-use Rattle.rules.specs.Refusal.{foundOr5, messageWith}
+use Rattle.rules.specs.Table.{messageWith}
+use Rattle.rules.specs.Refusal.{orNoWord}
 use Rattle.words.proofs.Labels.{phases-pow, messageOf-lt}
-use Rattle.shape.proofs.Range.{InRange, inShape-range, power-is, pathBits-le, coefficientBits-le, messageBits-le}
+use Rattle.rules.proofs.Range.{InRange, inShape-range, pathBits-le, coefficientBits-le, messageBits-le}
+use Rattle.shape.proofs.Powers.{power-is}
 use Rattle.reader.specs.Shown.{lowOf, labelWith}
 use Rattle.reader.proofs.ShownLaws.{labelWith-zero, labelWith-next, labelWith-lt, messageWith-some, messageWith-none}
 use Rattle.reader.proofs.search.Statement.{statement}
@@ -106,7 +108,7 @@ fits c =
     (c .before .is-word .ensures .0 (c .if1 .taken))
 
 returns : tie.Need-returns Inv-loop μ-loop
-returns c = sym (ap foundOr5 (fits c))
+returns c = sym (ap orNoWord (fits c))
 
 add-label : tie.Need-add-label Inv-loop μ-loop
 add-label c =
@@ -140,7 +142,7 @@ returns-2 : tie.Need-returns-2 Inv-loop μ-loop
 returns-2 c =
     let start = c .before .before .before .before .before .before .before in
     sym
-    (ap foundOr5
+    (ap orNoWord
     (messageWith-none (start .args .h) (start .args .m) (now (start .args .word)) (start .pre)
     (λ n b. c .before .loop .inv .2 n (omega (arith, c .loop-test .left, uses-is (c .before .before .before))))))
 

@@ -11,14 +11,14 @@ use borrow.Author.Count.{below-none, below-more}
 use borrow.Author.Needs.{needs}
 use borrow.Author.Tests.{le-leb, lt-leb}
 use Rattle.range.proofs.Tests.{firstBelow-some, firstBelow-none}
-use Rattle.rules.specs.Refusal.{at}
+use Rattle.rules.specs.Word.{symbolAt}
 use Rattle.shape.proofs.first_bad.Statement.{statement}
 use Rattle.shape.proofs.first_bad.Tie as tie
 use Rattle.shape.proofs.first_bad.Reads as reads
 use Rattle.shape.proofs.first_bad.Lts as lts
 
 abbrev Inv-loop : tie.InvT-loop
-Inv-loop q word i₀ i = (i ≤ length word) × ((k : ℕ) → k < i → leb q (at word k) ≡ false)
+Inv-loop q word i₀ i = (i ≤ length word) × ((k : ℕ) → k < i → leb q (symbolAt word k) ≡ false)
 
 abbrev μ-loop : tie.MeasureT-loop
 μ-loop q word i₀ i = length word - i
@@ -36,7 +36,7 @@ returns : tie.Need-returns Inv-loop μ-loop
 returns c =
     let at-loop = c .before .before .before in
     sym
-    (firstBelow-some (length (now (at-loop .before .args .word))) (λ k. leb (at-loop .before .args .q) (at (now (at-loop .before .args .word)) k))
+    (firstBelow-some (length (now (at-loop .before .args .word))) (λ k. leb (at-loop .before .args .q) (symbolAt (now (at-loop .before .args .word)) k))
     (at-loop .loop .i) (c .before .before .loop-test .taken) (le-leb _ _ (c .if1 .taken)) (at-loop .loop .inv .1))
 
 add-i : tie.Need-add-i Inv-loop μ-loop
@@ -51,9 +51,9 @@ loop-again c = (search needs, below-more _ _ (c .before .before .before .loop .i
 returns-2 : tie.Need-returns-2 Inv-loop μ-loop
 returns-2 c =
     let at-loop = c .before in
-    let all : (k : ℕ) → k < length (now (at-loop .before .args .word)) → leb (at-loop .before .args .q) (at (now (at-loop .before .args .word)) k) ≡ false
+    let all : (k : ℕ) → k < length (now (at-loop .before .args .word)) → leb (at-loop .before .args .q) (symbolAt (now (at-loop .before .args .word)) k) ≡ false
     = λ k h. at-loop .loop .inv .1 k (omega (arith, c .loop-test .left)) in
-    sym (firstBelow-none (length (now (at-loop .before .args .word))) (λ k. leb (at-loop .before .args .q) (at (now (at-loop .before .args .word)) k)) all)
+    sym (firstBelow-none (length (now (at-loop .before .args .word))) (λ k. leb (at-loop .before .args .q) (symbolAt (now (at-loop .before .args .word)) k)) all)
 
 pub first-bad-spec : {M : Type 1} → statement M
 first-bad-spec =

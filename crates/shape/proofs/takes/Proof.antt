@@ -8,7 +8,8 @@ use lib.Dec.{ltb}
 use borrow.Author.Needs.{needs}
 use borrow.Author.Tests.{not-true, not-false}
 use Rattle.rules.specs.Shape.{inShape, messageBits}
-use Rattle.shape.proofs.Range.{InRange, inShape-range, pathBits-le, coefficientBits-le, takes-test}
+use Rattle.rules.proofs.Range.{InRange, inShape-range, pathBits-le, coefficientBits-le}
+use Rattle.shape.proofs.Powers.{takes-test}
 use Rattle.shape.proofs.takes.Statement.{statement}
 use Rattle.shape.proofs.takes.Tie as tie
 

@@ -1,18 +1,29 @@
--- Bounds that a shape in range gives, so that no sum or shift of the code wraps.
--- In order: the ranges of h and m; w; the bits of a message number; powers; the limit of a message number.  Assumes nothing.
-use mathlib.Core.Path.{_≡_, refl, sym, _∙_, ap, subst}
-use mathlib.Core.Bool.{Bool, true, false, not, cond, _&&_, Bool·not-not}
-use mathlib.Core.List.{List, [], _∷_}
-use Prim.Native.Nat.{ℕ, zero, suc, _+_, _-_, _*_, _^_, _≤_, _<_, zero-le}
+-- Bounds that a shape in range gives.
+-- In order: the ranges of h and m; w; the bits of a message number; the phases, the carriers, the paths in use.
+-- Assumes nothing.
+use mathlib.Core.Path.{_≡_, sym, subst}
+use mathlib.Core.Bool.{true}
+use mathlib.Core.List.{[], _∷_}
+use Prim.Native.Nat.{ℕ, zero, suc, _+_, _-_, _*_, _≤_}
 use native.Mathlib.Nat.{mul-le-mul}
 use native.Mathlib.Omega.{arith}
-use lib.Dec.{T, leb, ltb, lit≤}
+use lib.Dec.{T, leb, lit≤}
 use lib.ListN.{getD}
 use lib.Pow.{pow-mono}
-use borrow.Author.Tests.{leb-true, leb-false, le-leb, le-ltb, lt-ltb}
+use borrow.Author.Tests.{leb-true, le-leb}
 use Rattle.range.proofs.Tests.{and-left, and-right, and-of}
-use Rattle.rules.specs.Shape.{greatestH, greatestM, pathBits, inH, inM, inShape, phases, carriers, pathsInUse, messageBits}
-use Rattle.rules.specs.Refusal.{badMessage}
+use Rattle.rules.specs.Shape.{
+  greatestH,
+  greatestM,
+  pathBits,
+  inH,
+  inM,
+  inShape,
+  phases,
+  carriers,
+  pathsInUse,
+  messageBits,
+}
 
 pub record InRange (h m : ℕ) : Type 0 where
   pub h-least : 1 ≤ h
@@ -53,16 +64,6 @@ coefficientBits-le h m r = mul-le-mul {n₁ = h} {m₁ = m + 1} {n₂ = greatest
 pub messageBits-le : (h m : ℕ) → InRange h m → messageBits h m ≤ 23
 messageBits-le h m r = omega (arith, pathBits-le m, coefficientBits-le h m r)
 
--- what `power` gives below 64
-pub power-is : (e : ℕ) → e < 64 → cond (ltb e 64) (2 ^ e) 0 ≡ 2 ^ e
-power-is e h = rw (lt-ltb e 64 h)
-
-pub power-phases : (h m : ℕ) → inShape h m ≡ true → cond (ltb h 64) (2 ^ h) 0 ≡ phases h
-power-phases h m e = power-is h (omega (arith, inShape-range h m e .h-most))
-
-pub power-carriers : (h m : ℕ) → inShape h m ≡ true → cond (ltb m 64) (2 ^ m) 0 ≡ carriers m
-power-carriers h m e = power-is m (omega (arith, inShape-range h m e .m-most))
-
 pub phases-least : (h m : ℕ) → InRange h m → 2 ≤ phases h
 phases-least h m r = pow-mono {i = 1} {j = h} (r .h-least)
 
@@ -74,23 +75,3 @@ carriers-most h m r = pow-mono (r .m-most)
 
 pub pathsInUse-most : (m : ℕ) → pathsInUse m ≤ 32
 pathsInUse-most m = pow-mono {i = pathBits m} {j = 5} (pathBits-le m)
-
--- below is not at least
-pub ltb-not-leb : (a b : ℕ) → ltb a b ≡ not (leb b a)
-ltb-not-leb a b = go (leb b a) refl
-  where
-    go : (t : Bool) → leb b a ≡ t → ltb a b ≡ not t
-    go true e = le-ltb a b (leb-true b a e)
-    go false e = lt-ltb a b (leb-false b a e)
-
--- the limit of a message number fits 64 bits, so that the test against it is the table's
-pub takes-test : (h m g : ℕ) → inShape h m ≡ true →
-    ltb g (cond (ltb (messageBits h m) 64) (2 ^ messageBits h m) 0) ≡ (inShape h m && not (badMessage h m g))
-takes-test h m g e =
-    let b : messageBits h m < 64 = omega (arith, messageBits-le h m (inShape-range h m e)) in
-    rw (e, lt-ltb (messageBits h m) 64 b) (ltb-not-leb g (2 ^ messageBits h m))
-
--- what `takes` says of a message number, where the shape is in range
-pub takes-tells : (h m g : ℕ) (b : Bool) → inShape h m ≡ true → b ≡ (inShape h m && not (badMessage h m g)) →
-    badMessage h m g ≡ not b
-takes-tells h m g b e q = sym (Bool·not-not (badMessage h m g)) ∙ ap not (sym (rw e at q))

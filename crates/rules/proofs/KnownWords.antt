@@ -1,0 +1,96 @@
+-- Every starred case of 01 is right: the one claim about the list of specs/Known.antt, by computation.
+-- In order: a shape outside its range; the soft case; the hard case; the claim.  Assumes nothing.
+use mathlib.Core.Path.{_≡_, refl}
+use mathlib.Core.Bool.{Bool, true, false, and-false}
+use mathlib.Core.List.{List, [], _∷_, flatMap}
+use Prim.Native.Nat.{ℕ, _≤_}
+use native.Mathlib.Omega.{arith}
+use lib.Dec.{lit<, leb}
+use lib.IntN.{ℤ, pos}
+use lib.ListN.{length, replicate, length-replicate}
+use lib.Signed.{leZ}
+use borrow.Author.Tests.{eqb-false, eq-eqb, ne-eqb}
+use Rattle.range.specs.Below.{sumBelow, countBelow, allBelow, firstBelow, listBelow}
+use Rattle.range.specs.Signed.{sumℤ}
+use Rattle.rules.specs.Shape.{pathBits, inH, inM, inShape}
+use Rattle.rules.specs.Place.{digit}
+use Rattle.rules.specs.Path.{keep, without, orders, upTo, paths, pathAt}
+use Rattle.rules.specs.Label.{labels, labelPath, coefficient, constant, labelParts, labelOf}
+use Rattle.rules.specs.Word.{links, formAt, wordAt, partnerAt, wordOf, partnerOf, symbolAt}
+use Rattle.rules.specs.Pair.{minus, phaseCount, pairCount, golayPair}
+use Rattle.rules.specs.Distance.{hamming, distance}
+use Rattle.rules.specs.Soft.{heard, correlation, softLength}
+use Rattle.rules.specs.Outcome.{refuses, allowed}
+use Rattle.rules.specs.Table.{badShape, badSymbol, messageWith}
+use Rattle.rules.specs.Refusal.{
+  sendRefusal,
+  pairOutcome,
+  readOutcome,
+  softRefusal,
+  hardRefusal,
+  transformRefusal,
+}
+use Rattle.rules.specs.Known.{Refused1, reaching, Right, AllRight, starred, fourLeast, outsideM, soft, hard, silence}
+use Rattle.rules.proofs.Range.{inShape-range}
+use Rattle.rules.proofs.BestLaws.{best-of-tests}
+use Rattle.rules.proofs.Silence.{greatest-of-zeros}
+
+-- a shape outside its range is refused 1 by every call
+refused-one : (h m : ℕ) → badShape h m ≡ true → Refused1 h m
+unfolding sendRefusal pairOutcome readOutcome softRefusal hardRefusal
+refused-one h m e n g a b ys = (rw e, rw e, rw e, rw e, rw e)
+
+outside-m : (m : ℕ) → inM m ≡ false → Right (outsideM m)
+unfolding transformRefusal
+outside-m m e = (λ h. refused-one h m (rw (e, and-false (inH h))), λ y n. rw e)
+
+soft-right : Right (soft 1 2 fourLeast 1 (pos 65536) (3 ∷ 5 ∷ 6 ∷ []))
+unfolding
+    softRefusal allBelow correlation sumℤ heard wordAt formAt links digit pathAt paths keep without orders upTo listBelow flatMap
+    labelPath coefficient constant labelOf pathBits sumBelow reaching
+soft-right = (
+  refl,
+  best-of-tests (labels 1 2) leZ (correlation 1 2 fourLeast) 1 3 (lit< tt) (lit< tt) (eqb-false 3 1 refl) refl tt refl refl,
+  refl,
+)
+
+hard-right : Right (hard 1 2 (1 ∷ 1 ∷ 1 ∷ 1 ∷ []) 1 1)
+unfolding
+    hardRefusal badSymbol firstBelow allBelow countBelow hamming distance wordAt formAt links digit pathAt paths keep without orders
+    upTo listBelow flatMap labelPath coefficient constant labelOf pathBits sumBelow
+hard-right = (
+  refl,
+  best-of-tests (labels 1 2) (λ a b. leb b a) (λ k. distance 1 4 (symbolAt (1 ∷ 1 ∷ 1 ∷ 1 ∷ [])) (wordAt 1 2 k)) 1 3 (lit< tt)
+      (lit< tt) (eqb-false 3 1 refl) refl tt refl refl,
+)
+
+-- zeros of the right length are not refused
+zeros-allowed : (h m : ℕ) → inShape h m ≡ true → h ≤ 2 → softRefusal h m (replicate (softLength h m) (pos 0)) ≡ allowed
+unfolding softRefusal
+zeros-allowed h m e two =
+    rw (
+      e,
+      ne-eqb h 3 (λ q. omega arith),
+      eq-eqb (length (replicate (softLength h m) (pos 0))) (softLength h m) (length-replicate (softLength h m) (pos 0)),
+    )
+
+silence-right : Right silence
+silence-right h m e two = (zeros-allowed h m e two, greatest-of-zeros h m (inShape-range h m e .h-least))
+
+infixr 5 _&_
+_&_ : {A B : Type 0} → A → B → A × B
+a & b = (a, b)
+
+pub known : AllRight starred
+unfolding
+    _&_ starred wordOf partnerOf wordAt partnerAt formAt links digit pathAt paths keep without orders upTo listBelow flatMap labelPath
+    coefficient constant labelParts labelOf pathBits sumBelow countBelow allBelow firstBelow minus phaseCount pairCount golayPair
+    badSymbol messageWith sendRefusal pairOutcome readOutcome
+known =
+    (refl, refl) & (refl, refl) & refl
+    & (refl, refl) & (refl, refl) & (refl, refl)
+    & (refl, refl) & (refl, refl) & (refl, refl) & (refl, refl)
+    & (refl, refl) & (refl, refl) & (refl, refl)
+    & refl & refl & refl & refl
+    & outside-m 1 refl & outside-m 6 refl & (λ m. refused-one 0 m refl) & (λ m. refused-one 4 m refl)
+    & soft-right & (refl, refl) & silence-right & hard-right & refl & tt
