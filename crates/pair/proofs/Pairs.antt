@@ -93,7 +93,7 @@ double-mod-ne s d l h e = split (leb (s * 2) (d + s)) refl
 
 add-half-mod-ne : (h d : ℕ) → 1 ≤ h → d < phases h → (d + halfTurn h) % phases h ≡ d → ⊥
 add-half-mod-ne h d l s e =
-    double-mod-ne (halfTurn h) d (pow-pos (h - 1)) (rw (phases-double h l) symbolAt s) (rw (phases-double h l) symbolAt e)
+    double-mod-ne (halfTurn h) d (pow-pos (h - 1)) (rw (phases-double h l) at s) (rw (phases-double h l) at e)
 
 -- a place in each of two equal words with the same difference, and none half a turn on
 pairCount-ends-ne : (h n : ℕ) (a : ℕ → ℕ) → 1 ≤ h → 1 ≤ n →
