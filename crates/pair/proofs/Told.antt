@@ -7,7 +7,7 @@ use Prim.Native.Nat.{ℕ, _-_}
 use lib.ListN.{getD}
 use Rattle.rules.specs.Outcome.{Outcome, gives, refuses}
 use Rattle.rules.specs.Refusal.{pairOutcome}
-use Rattle.kinds.proofs.ToldLaws.{refusalBack, behind, refusalBack-told, behind-told}
+use Rattle.kinds.proofs.ToldLaws.{refusalBack, behind, refusalBack-says, behind-says}
 use Rattle.pair.specs.declared.Which.{Which}
 use Rattle.pair.specs.declared.Which.the-variants.{Either, First, Second}
 use Rattle.pair.specs.declared.Paired.{Paired}
@@ -23,7 +23,7 @@ wordBack (n ∷ _) = getD (First ∷ Second ∷ []) (n - 1) Either
 abbrev back : Outcome Bool → Paired
 back (gives true) = Yes
 back (gives false) = No
-back (refuses k carried) = Refused (refusalBack k carried) (wordBack (behind k carried))
+back (refuses k v) = Refused (refusalBack k v) (wordBack (behind k v))
 
 wordBack-wordTold : (w : Which) → wordBack (wordTold w) ≡ w
 wordBack-wordTold Either = refl
@@ -33,7 +33,7 @@ wordBack-wordTold Second = refl
 back-pairedTold : (r : Paired) → back (pairedTold r) ≡ r
 back-pairedTold Yes = refl
 back-pairedTold No = refl
-back-pairedTold (Refused r w) = rw (refusalBack-told r (wordTold w), behind-told r (wordTold w), wordBack-wordTold w)
+back-pairedTold (Refused r w) = rw (refusalBack-says r (wordTold w), behind-says r (wordTold w), wordBack-wordTold w)
 
 pub pairedTold-inj : (r s : Paired) → pairedTold r ≡ pairedTold s → r ≡ s
 pairedTold-inj r s e = sym (back-pairedTold r) ∙ ap back e ∙ back-pairedTold s

@@ -1,13 +1,12 @@
 -- What each answer of the pair check says, in the terms of document 01.
 -- Defines:  wordTold w          what is told of the word that a refusal speaks of: its number, and nothing for either
---           telling more o      an outcome, with more behind the numbers that a refusal carries
 --           pairedTold r        the answer, as an outcome (Rattle.rules.specs.Refusal)
 -- The promise of `check` speaks of its answer through pairedTold.  Assumes nothing: these are definitions.
 use mathlib.Core.Bool.{Bool, true, false}
-use mathlib.Core.List.{List, [], _∷_, _++_}
+use mathlib.Core.List.{List, [], _∷_}
 use Prim.Native.Nat.{ℕ}
-use Rattle.rules.specs.Outcome.{Outcome, gives, refuses}
-use Rattle.kinds.specs.Told.{refusalTold}
+use Rattle.rules.specs.Outcome.{Outcome, gives}
+use Rattle.kinds.specs.Told.{refusalTold, telling}
 use Rattle.pair.specs.declared.Which.{Which}
 use Rattle.pair.specs.declared.Which.the-variants.{Either, First, Second}
 use Rattle.pair.specs.declared.Paired.{Paired}
@@ -17,10 +16,6 @@ abbrev pub wordTold : Which → List ℕ
 wordTold Either = []
 wordTold First = 1 ∷ []
 wordTold Second = 2 ∷ []
-
-abbrev pub telling : {A : Type 0} → List ℕ → Outcome A → Outcome A
-telling more (gives a) = gives a
-telling more (refuses k carried) = refuses k (carried ++ more)
 
 abbrev pub pairedTold : Paired → Outcome Bool
 pairedTold Yes = gives true
