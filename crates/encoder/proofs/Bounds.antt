@@ -7,13 +7,14 @@ use native.Mathlib.Omega.{arith}
 use lib.ListN.{getD}
 use Rattle.range.specs.Below.{sumBelow}
 use Rattle.range.proofs.Sums.{sumBelow-le}
+use Rattle.rules.specs.Shape.{greatestM, carriers}
 use Rattle.encoder.specs.Steps.{cell, linearOf, linksOf, Cells, Small, Walk}
 
-module _ (m : ℕ) (g : List (List ℕ)) (cells : Cells m g) (i : ℕ) (inside : i < 32) where
+module _ (m : ℕ) (g : List (List ℕ)) (cells : Cells m g) (i : ℕ) (inside : i < carriers greatestM) where
   module _ (c : List ℕ) (small : Small m c) where
     pub term-le : (r : ℕ) → r ≤ m → getD c r 0 * cell g r i ≤ 7
     term-le r h =
-        mul-le-mul {n₁ = getD c r 0} {m₁ = cell g r i} {n₂ = 7} {m₂ = 1} (small .small r h) (cells .cells r i h inside)
+        mul-le-mul {n₁ = getD c r 0} {m₁ = cell g r i} {n₂ = 7} {m₂ = 1} (omega (arith, small .small r h)) (cells .cells r i h inside)
 
     pub terms-le : (r : ℕ) → r ≤ m + 1 → sumBelow r (λ k. getD c k 0 * cell g k i) ≤ r * 7
     terms-le r h = sumBelow-le r 7 (λ k. getD c k 0 * cell g k i) (λ k l. term-le k (omega arith))

@@ -24,7 +24,8 @@ use Rattle.words.proofs.Forms.{formAt-rows, partnerAt-form}
 use Rattle.words.proofs.Used.{used-isPath}
 use Rattle.words.proofs.Inject.{phases-half}
 use Rattle.rules.proofs.Range.{InRange, range-inM, phases-most, carriers-most}
-use Rattle.encoder.specs.Steps.{generatorRows, pathRow, cell, linearOf, linksOf, symbolOf, liftedAt, Cells, Small, Walk}
+use Rattle.paths.specs.Steps.{pathRow}
+use Rattle.encoder.specs.Steps.{generatorRows, cell, linearOf, linksOf, symbolOf, liftedAt, Cells, Small, Walk}
 use Rattle.encoder.proofs.Matrix.{generatorAt-digit, generatorRows-at, generatorRows-cells}
 
 -- the links of a path as a sum over its steps

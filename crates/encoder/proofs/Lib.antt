@@ -1,6 +1,5 @@
 -- Laws of the encoder's steps.
 pub mod Bounds
-pub mod PathTable
 pub mod Matrix
 pub mod Divide
 pub mod Formula

@@ -1,16 +1,17 @@
--- The generator as code holds it. In order: a row past the first holds digits; the rows; every cell is 0 or 1.
+-- The generator as code holds it. In order: a row past the first holds digits; the rows, and that they are 01's; every cell
+-- is 0 or 1.
 -- Assumes nothing.
 use mathlib.Core.Path.{_≡_, refl, sym, _∙_, ap, subst}
 use mathlib.Core.List.{List, []}
-use Prim.Native.Nat.{ℕ, zero, suc, _+_, _≤_, _<_, zero-le}
-use native.Mathlib.Nat.{not-suc-le-zero, le-refl, le-of-suc-le-suc, mod-lt}
+use Prim.Native.Nat.{ℕ, zero, suc, _≤_, _<_, suc-le-suc}
+use native.Mathlib.Nat.{not-suc-le-zero, le-refl, le-of-suc-le-suc, lt-of-lt-of-le}
 use native.Mathlib.Omega.{arith}
-use lib.Dec.{lit<}
 use lib.ListN.{getD}
+use lib.Pow.{pow-mono}
 use Rattle.range.specs.Below.{listBelow}
 use Rattle.range.proofs.Lists.{listBelow-at, listBelow-cong}
 use Rattle.rules.specs.Shape.{greatestM, carriers}
-use Rattle.rules.specs.Place.{digit, generatorAt}
+use Rattle.rules.specs.Place.{digit, generatorAt, generator}
 use Rattle.words.proofs.Digits.{digit-lt}
 use Rattle.encoder.specs.Steps.{generatorRows, cell, Cells}
 
@@ -33,6 +34,17 @@ generatorRows-at m r i h l =
     ap (λ (row : List ℕ). getD row i 0)
     (listBelow-at (suc greatestM) (λ k. listBelow (carriers greatestM) (generatorAt m k)) r [] (omega arith))
     ∙ listBelow-at (carriers greatestM) (generatorAt m r) i 0 l
+
+-- on 01's rows and places it is 01's generator
+pub generatorRows-is : (m r i : ℕ) → m ≤ greatestM → r ≤ m → i < carriers m →
+    cell (generatorRows m) r i ≡ cell (generator m) r i
+unfolding generator
+generatorRows-is m r i most h l =
+    generatorRows-at m r i (omega arith) (lt-of-lt-of-le l (pow-mono most))
+    ∙ sym
+    (ap (λ (row : List ℕ). getD row i 0)
+    (listBelow-at (suc m) (λ k. listBelow (carriers m) (generatorAt m k)) r [] (suc-le-suc h))
+    ∙ listBelow-at (carriers m) (generatorAt m r) i 0 l)
 
 pub generatorRows-cells : (m : ℕ) → m ≤ greatestM → Cells m (generatorRows m)
 generatorRows-cells m most = record {

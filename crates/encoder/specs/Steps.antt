@@ -1,6 +1,5 @@
 -- What the steps of the encoder compute, said of the arrays that they hold. Not 01's rules: proofs/Formula.antt ties these to them.
 -- Defines:  generatorRows m      the generator as code holds it: a row for each coefficient of the greatest m, all places
---           pathRow m n          the steps of path n as code holds them, 0 after the m-th
 --           cell g r i           row r of the array g at place i
 --           linearOf, linksOf    the sum over the rows, and over the links, at place i
 --           symbolOf             both, with s times the row of the first step, modulo q
@@ -13,7 +12,7 @@ use mathlib.Core.List.{List, []}
 use Prim.Native.Nat.{ℕ, suc, _+_, _-_, _*_, _/_, _%_, _≤_, _<_}
 use lib.ListN.{getD}
 use Rattle.range.specs.Below.{sumBelow, listBelow}
-use Rattle.rules.specs.Shape.{greatestM, carriers, phases}
+use Rattle.rules.specs.Shape.{greatestH, greatestM, carriers, phases}
 use Rattle.rules.specs.Place.{digit, generatorAt}
 use Rattle.rules.specs.Path.{headOf, pathAt}
 use Rattle.rules.specs.Label.{labelPath, rowCoefficient}
@@ -22,9 +21,6 @@ use Rattle.encoder.specs.declared.Parts.{Parts}
 
 unfoldable pub generatorRows : ℕ → List (List ℕ)
 generatorRows m = listBelow (suc greatestM) (λ r. listBelow (carriers greatestM) (generatorAt m r))
-
-unfoldable pub pathRow : ℕ → ℕ → List ℕ
-pathRow m n = listBelow greatestM (λ k. getD (pathAt m n) k 0)
 
 abbrev pub cell : List (List ℕ) → ℕ → ℕ → ℕ
 cell g r i = getD (getD g r []) i 0
@@ -50,9 +46,9 @@ pub record Cells (m : ℕ) (g : List (List ℕ)) : Type 0 where
   pub most : m ≤ greatestM
   pub cells : (r i : ℕ) → r ≤ m → i < carriers greatestM → cell g r i ≤ 1
 
--- the coefficients are below 8
+-- the coefficients are below the most phases
 pub record Small (m : ℕ) (c : List ℕ) : Type 0 where
-  pub small : (r : ℕ) → r ≤ m → getD c r 0 ≤ 7
+  pub small : (r : ℕ) → r ≤ m → getD c r 0 < phases greatestH
 
 -- each step names a row
 pub record Walk (m : ℕ) (p : List ℕ) : Type 0 where

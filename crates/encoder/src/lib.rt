@@ -1,24 +1,24 @@
 // Encode and partner: document 01 "What a logger may send" and "The partner and the pair check", 001 Corollary 4.
 // Both refuse 1, 2 and 4, in that order, and a refusal writes nothing. The rows of the generator are combined place by
 // place; the partner adds 2^(h-1) of row p(1). Contracts cite specs/Sent.antt, and for the steps specs/Steps.antt.
-mod table;
-
 use kinds::MessageNumber;
 use kinds::PathNumber;
 use kinds::Refusal;
+use shape::PLACES;
+use shape::ROWS;
+use shape::STEPS;
 ghost use mathlib.Core.Path.{_≡_};
 ghost use mathlib.Core.Bool.{true, cond};
 ghost use mathlib.Core.List.{List, []};
 ghost use Prim.Native.Nat.{ℕ, zero, suc, _+_, _-_, _*_, _%_, _≤_, _<_};
 ghost use lib.ListN.{length, getD};
 ghost use Rattle.range.specs.Below.{listBelow};
-ghost use Rattle.rules.specs.Shape.{pathsInUse, carriers, inShape, phases, halfTurn, greatestM};
+ghost use Rattle.rules.specs.Shape.{pathsInUse, carriers, inShape, phases, halfTurn, greatestH, greatestM};
 ghost use Rattle.rules.specs.Place.{digit};
 ghost use Rattle.rules.specs.Label.{labels, labelOf};
 ghost use Rattle.rules.specs.Word.{wordOf, partnerOf};
 ghost use Rattle.encoder.specs.Steps.{
   generatorRows,
-  pathRow,
   cell,
   linearOf,
   linksOf,
@@ -40,7 +40,7 @@ pub enum Written {
 // A label taken apart: its path number, and its coefficients, c and then c_1 to c_m.
 pub struct Parts {
     pub path: PathNumber,
-    pub c: [u32; 6],
+    pub c: [u32; ROWS],
 }
 
 // Writes the N symbols of the message's word to out. Refuses 1 a shape out of range, 2 an out that is not N long, 4 a
@@ -91,16 +91,24 @@ fn fill(h: u32, m: u32, label: u64, lift: u32, out: &mut [u8])
     let n = t.path;
     let c = t.c;
     let g = generator(m);
-    let p = path_row(m, n);
+    let p = paths::steps(m, n);
     combine(g, p, c, m, q, lift * (q / 2), out);
 }
 
 // Writes the symbol of each place of out.
-fn combine(g: [[u8; 32]; 6], p: [u8; 5], c: [u32; 6], m: u32, q: u32, s: u32, out: &mut [u8])
+fn combine(
+    g: [[u8; PLACES]; ROWS],
+    p: [u8; STEPS],
+    c: [u32; ROWS],
+    m: u32,
+    q: u32,
+    s: u32,
+    out: &mut [u8],
+)
     requires { ⌜ Cells m g ⌝ }
     requires { ⌜ Small m c ⌝ }
     requires { ⌜ Walk m p ⌝ }
-    requires { ⌜ (2 ≤ q) × (q ≤ 8) × (s ≤ 4) × (length (now out) ≤ 32) ⌝ }
+    requires { ⌜ (2 ≤ q) × (q ≤ phases greatestH) × (s ≤ halfTurn greatestH) × (length (now out) ≤ carriers greatestM) ⌝ }
     ensures { λ _. ⌜ now (out .exit) ≡ listBelow (length (now (out .entry))) (symbolOf g p c m q s) ⌝ }
 {
     let mut i = 0;
@@ -111,11 +119,19 @@ fn combine(g: [[u8; 32]; 6], p: [u8; 5], c: [u32; 6], m: u32, q: u32, s: u32, ou
 }
 
 // The symbol at place i: the links times q / 2, the rows times their coefficients, and s times the first step's row.
-fn symbol(g: [[u8; 32]; 6], p: [u8; 5], c: [u32; 6], m: u32, q: u32, s: u32, i: usize) -> u8
+fn symbol(
+    g: [[u8; PLACES]; ROWS],
+    p: [u8; STEPS],
+    c: [u32; ROWS],
+    m: u32,
+    q: u32,
+    s: u32,
+    i: usize,
+) -> u8
     requires { ⌜ Cells m g ⌝ }
     requires { ⌜ Small m c ⌝ }
     requires { ⌜ Walk m p ⌝ }
-    requires { ⌜ (2 ≤ q) × (q ≤ 8) × (s ≤ 4) × (i < 32) ⌝ }
+    requires { ⌜ (2 ≤ q) × (q ≤ phases greatestH) × (s ≤ halfTurn greatestH) × (i < carriers greatestM) ⌝ }
     ensures { λ r. ⌜ r ≡ symbolOf g p c m q s i ⌝ }
 {
     let a = links(g, p, m, i);
@@ -125,10 +141,10 @@ fn symbol(g: [[u8; 32]; 6], p: [u8; 5], c: [u32; 6], m: u32, q: u32, s: u32, i: 
 }
 
 // The sum over the rows of the generator of coefficient times digit.
-fn linear(g: [[u8; 32]; 6], c: [u32; 6], m: u32, i: usize) -> u32
+fn linear(g: [[u8; PLACES]; ROWS], c: [u32; ROWS], m: u32, i: usize) -> u32
     requires { ⌜ Cells m g ⌝ }
     requires { ⌜ Small m c ⌝ }
-    requires { ⌜ i < 32 ⌝ }
+    requires { ⌜ i < carriers greatestM ⌝ }
     ensures { λ r. ⌜ r ≡ linearOf g c m i ⌝ }
 {
     let n = m as usize + 1;
@@ -142,10 +158,10 @@ fn linear(g: [[u8; 32]; 6], c: [u32; 6], m: u32, i: usize) -> u32
 }
 
 // The sum over the links of the path of digit times digit.
-fn links(g: [[u8; 32]; 6], p: [u8; 5], m: u32, i: usize) -> u32
+fn links(g: [[u8; PLACES]; ROWS], p: [u8; STEPS], m: u32, i: usize) -> u32
     requires { ⌜ Cells m g ⌝ }
     requires { ⌜ Walk m p ⌝ }
-    requires { ⌜ i < 32 ⌝ }
+    requires { ⌜ i < carriers greatestM ⌝ }
     ensures { λ r. ⌜ r ≡ linksOf g p m i ⌝ }
 {
     let n = m as usize - 1;
@@ -159,8 +175,8 @@ fn links(g: [[u8; 32]; 6], p: [u8; 5], m: u32, i: usize) -> u32
 }
 
 // Row r at place i.
-fn at(g: [[u8; 32]; 6], r: usize, i: usize) -> u32
-    requires { ⌜ (r < 6) × (i < 32) ⌝ }
+fn at(g: [[u8; PLACES]; ROWS], r: usize, i: usize) -> u32
+    requires { ⌜ (r ≤ greatestM) × (i < carriers greatestM) ⌝ }
     ensures { λ x. ⌜ x ≡ cell g r i ⌝ }
 {
     wide(g[r][i])
@@ -186,13 +202,13 @@ fn less(a: usize, b: usize) -> usize
 }
 
 // The generator: the all-ones row, then the rows x_1 to x_m.
-fn generator(m: u32) -> [[u8; 32]; 6]
+fn generator(m: u32) -> [[u8; PLACES]; ROWS]
     requires { ⌜ m ≤ greatestM ⌝ }
     ensures { λ g. ⌜ g ≡ generatorRows m ⌝ }
 {
-    let mut g = [[1u8; 32]; 6];
+    let mut g = [[1u8; PLACES]; ROWS];
     let mut r = 1;
-    while r < 6 {
+    while r < ROWS {
         let row = digits(m, r);
         g[r] = row;
         r += 1;
@@ -201,29 +217,18 @@ fn generator(m: u32) -> [[u8; 32]; 6]
 }
 
 // The row x_r: the digit x_r of each place, x_1 the most significant of m.
-fn digits(m: u32, r: usize) -> [u8; 32]
-    requires { ⌜ (m ≤ greatestM) × (r < 6) ⌝ }
-    ensures { λ x. ⌜ x ≡ listBelow 32 (λ i. digit m i r) ⌝ }
+fn digits(m: u32, r: usize) -> [u8; PLACES]
+    requires { ⌜ (m ≤ greatestM) × (r ≤ greatestM) ⌝ }
+    ensures { λ x. ⌜ x ≡ listBelow (carriers greatestM) (λ i. digit m i r) ⌝ }
 {
     let e = less(m as usize, r);
-    let mut row = [0u8; 32];
+    let mut row = [0u8; PLACES];
     let mut i: usize = 0;
-    while i < 32 {
+    while i < PLACES {
         row[i] = ((i >> e) % 2) as u8;
         i += 1;
     }
     row
-}
-
-// The steps of path n of m.
-fn path_row(m: u32, n: PathNumber) -> [u8; 5]
-    requires { ⌜ (2 ≤ m) × (m ≤ greatestM) ⌝ }
-    requires { ⌜ n .0 < pathsInUse m ⌝ }
-    ensures { λ p. ⌜ p ≡ pathRow m (n .0) ⌝ }
-{
-    let first = table::STARTS[m as usize - 2];
-    let at = first + n.0 as usize;
-    table::PATHS[at]
 }
 
 // The label taken apart, c first: each division by 2^h leaves what stands above.
@@ -233,7 +238,7 @@ fn split(h: u32, m: u32, label: u64) -> Parts
     ensures { λ t. ⌜ Split h m label t ⌝ }
 {
     let q = shape::power(h);
-    let mut c = [0u32; 6];
+    let mut c = [0u32; ROWS];
     c[0] = (label % q) as u32;
     let mut rest = label / q;
     let mut r = m as usize;

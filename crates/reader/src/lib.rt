@@ -3,6 +3,7 @@
 use kinds::MessageNumber;
 use kinds::Refusal;
 use kinds::Search;
+use shape::PLACES;
 ghost use mathlib.Core.Path.{_≡_};
 ghost use mathlib.Core.Bool.{true};
 ghost use Prim.Native.Nat.{_^_, _<_};
@@ -64,7 +65,7 @@ fn is_word(h: u32, m: u32, message: MessageNumber, word: &[u8]) -> bool
     ensures { λ r. ⌜ (r ≡ true → wordOf h m (message .0) ≡ now (word .entry))
         × (wordOf h m (message .0) ≡ now (word .entry) → r ≡ true) ⌝ }
 {
-    let mut buffer = [0u8; 32];
+    let mut buffer = [0u8; PLACES];
     let n = word.len();
     compare(h, m, message, &mut buffer[..n], word)
 }

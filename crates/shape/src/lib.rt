@@ -1,5 +1,5 @@
 // The tests of document 01's table and the numbers that a shape gives, as code.
-// No function here has a requires: each is right, or says what it gives, for every argument.
+// No function here has a requires: outside a shape in range each says what it gives.
 // The greatest h, the greatest m and the table w stand here alone; their definitions are in rules, specs/Shape.antt.
 use kinds::MessageNumber;
 use kinds::Place;
@@ -15,13 +15,20 @@ ghost use Rattle.rules.specs.Table.{badMessage};
 ghost use Rattle.kinds.specs.Told.{searchTold};
 ghost use Rattle.shape.specs.Symbols.{firstBad};
 
-const GREATEST_H: u32 = 3;
+pub const GREATEST_H: u32 = 3;
 
-const GREATEST_M: u32 = 5;
+pub const GREATEST_M: u32 = 5;
 
-const PATH_BITS: [u32; 4] = [0, 1, 3, 5];
+// What the greatest m makes of the sizes of arrays: the steps of a path, the rows of the generator, the places of a word.
+pub const STEPS: usize = GREATEST_M as usize;
 
-// Whether h is in 1..3 and m in 2..5.
+pub const ROWS: usize = STEPS + 1;
+
+pub const PLACES: usize = 1 << STEPS;
+
+const PATH_BITS: [u32; STEPS - 1] = [0, 1, 3, 5];
+
+// Whether h and m are in their ranges.
 pub fn in_shape(h: u32, m: u32) -> bool
     ensures { λ r. ⌜ r ≡ inShape h m ⌝ }
 {
@@ -55,7 +62,7 @@ pub fn path_bits(m: u32) -> u32
         return 0;
     }
     let at = (m - 2) as usize;
-    if at < 4 { PATH_BITS[at] } else { 0 }
+    if at < STEPS - 1 { PATH_BITS[at] } else { 0 }
 }
 
 // Whether the shape is in range and the message number needs no more than its bits.

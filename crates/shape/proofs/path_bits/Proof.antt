@@ -19,6 +19,9 @@ returns c =
 cast-at : tie.Need-cast-at
 cast-at c = search needs
 
+sub-if2 : tie.Need-sub-if2
+sub-if2 c = search needs
+
 mul-result : tie.Need-mul-result
 mul-result c = search needs
 
@@ -34,4 +37,4 @@ unfolding pathBits
 returns-3 c = sym (List·getD-eq-default (0 ∷ 1 ∷ 3 ∷ 5 ∷ []) 0 (c .if2 .left))
 
 pub path-bits-spec : {M : Type 1} → statement M
-path-bits-spec = tie.close (tie.spec returns cast-at mul-result array-read-result returns-2 returns-3)
+path-bits-spec = tie.close (tie.spec returns cast-at sub-if2 mul-result array-read-result returns-2 returns-3)

@@ -1,5 +1,5 @@
 -- The table of the paths in use: rows of pathRow for m = 2, 3, .., end to end, and where each m begins.
--- That the code's constants are these is computed where the code reads them (path_row).
+-- That the code's constants are these is computed where the code reads them (steps).
 -- In order: the table and the starts; a place of the table lies inside; what stands there.  Assumes nothing.
 use mathlib.Core.Path.{_≡_, refl, sym, _∙_, ap}
 use mathlib.Core.List.{List, []}
@@ -10,7 +10,7 @@ use Rattle.range.specs.Below.{sumBelow, listBelow, rowsBelow}
 use Rattle.range.proofs.Sums.{sumBelow-lt}
 use Rattle.range.proofs.Lists.{length-listBelow, listBelow-at, rowsBelow-at}
 use Rattle.rules.specs.Shape.{greatestM, pathsInUse}
-use Rattle.encoder.specs.Steps.{pathRow}
+use Rattle.paths.specs.Steps.{pathRow}
 
 -- the numbers m from 2 on, counted from 0
 abbrev inUseFrom2 : ℕ → ℕ
