@@ -7,3 +7,4 @@ pub mod Forms
 pub mod Readings
 pub mod Used
 pub mod Inject
+pub mod Partners
