@@ -1,0 +1,57 @@
+// Writes text, numbers, words and refusals to standard output, for the programs. What is written is not proved: no contract
+// can speak of it; each function is proved to stay within its slice and to end.
+use kinds::Place;
+use kinds::Refusal;
+use libc::STDOUT_FILENO;
+
+pub fn say(text: &[u8]) {
+    io::write_all(STDOUT_FILENO, text);
+}
+
+pub fn number(x: u64) {
+    io::print_decimal(STDOUT_FILENO, x);
+}
+
+// The symbols of a word, one digit each.
+pub fn symbols(word: &[u8]) {
+    let mut i = 0;
+    while i < word.len() {
+        symbol(word[i]);
+        i += 1;
+    }
+}
+
+// A symbol as a digit, or in parentheses where it needs more than one.
+fn symbol(x: u8) {
+    if x < 10 {
+        number(x as u64);
+    } else {
+        say(b"(");
+        number(x as u64);
+        say(b")");
+    }
+}
+
+// A refusal by its number in the table of 01, with its place where it carries one.
+pub fn refusal(kind: Refusal) {
+    match kind {
+        Refusal::Shape => say(b"refused 1"),
+        Refusal::Length => say(b"refused 2"),
+        Refusal::Symbol(at) => {
+            say(b"refused 3");
+            place(at);
+        }
+        Refusal::Message => say(b"refused 4"),
+        Refusal::NoWord => say(b"refused 5"),
+        Refusal::Octary => say(b"refused 6"),
+        Refusal::Value(at) => {
+            say(b"refused 7");
+            place(at);
+        }
+    }
+}
+
+fn place(at: Place) {
+    say(b" at place ");
+    number(at.0 as u64);
+}
