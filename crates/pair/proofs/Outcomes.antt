@@ -1,68 +1,72 @@
--- What the pair check is to answer on each way out of the code, with q for 2^h.
--- In order: what the searches say; the shape and the lengths refused; what is left to the words.
+-- What the pair check is to answer on each way out of the code.
+-- In order: the shape refused; a length; a symbol; what is left to the counts, and what they require.
 -- Assumes nothing.
 use mathlib.Core.Path.{_≡_, sym}
 use mathlib.Core.Bool.{true, false}
 use mathlib.Core.List.{List, [], _∷_}
 use mathlib.Core.Option.{none, some}
-use Prim.Native.Nat.{ℕ, _≤_}
+use Prim.Native.Nat.{ℕ}
 use lib.ListN.{length}
 use borrow.Author.Tests.{eq-eqb, ne-eqb}
-use Rattle.rules.specs.Shape.{phases, carriers, inShape}
-use Rattle.rules.specs.Outcome.{gives, refuses}
+use Rattle.rules.specs.Shape.{inShape, phases, carriers}
+use Rattle.rules.specs.Pair.{golayPair}
+use Rattle.rules.specs.Word.{symbolAt}
+use Rattle.rules.specs.Outcome.{gives, refuses, refuseAt}
 use Rattle.rules.specs.Table.{badSymbol}
 use Rattle.rules.specs.Refusal.{pairOutcome}
 use Rattle.rules.proofs.Range.{inShape-range}
 use Rattle.shape.specs.Symbols.{firstBad}
 use Rattle.shape.proofs.SymbolLaws.{firstBad-none}
-use Rattle.pair.specs.Tally.{PairOf, balanced, wordsOutcome}
-use Rattle.pair.proofs.Pairs.{golayPair-balanced}
-
--- what the searches through both words say
-module _ (q : ℕ) (a b : List ℕ) where
-  pub words-first : (i : ℕ) → some i ≡ firstBad q a → refuses 3 (i ∷ 1 ∷ []) ≡ wordsOutcome q a b
-  unfolding wordsOutcome
-  words-first i e = rw (sym e)
-
-  module _ (e : none ≡ firstBad q a) where
-    pub words-second : (i : ℕ) → some i ≡ firstBad q b → refuses 3 (i ∷ 2 ∷ []) ≡ wordsOutcome q a b
-    unfolding wordsOutcome
-    words-second i p = rw (sym e, sym p)
-
-    module _ (p : none ≡ firstBad q b) where
-      pub words-given : gives (balanced q a b) ≡ wordsOutcome q a b
-      unfolding wordsOutcome
-      words-given = rw (sym e, sym p)
-
-      pub pair-of : 1 ≤ q → q ≤ 256 → length b ≡ length a → PairOf q a b
-      pair-of l h n =
-          record {
-            first = record { least = l; most = h; symbols = firstBad-none q a e };
-            second = record { least = l; most = h; symbols = firstBad-none q b p };
-            lengths = n;
-          }
+use Rattle.pair.specs.Words.{SymbolsBelow, Words}
 
 module _ (h m : ℕ) (a b : List ℕ) where
-  pub outcome-shape : inShape h m ≡ false → refuses 1 [] ≡ pairOutcome h m a b
+  pub pair-shape : inShape h m ≡ false → refuses 1 [] ≡ pairOutcome h m a b
   unfolding pairOutcome
-  outcome-shape e = rw e
+  pair-shape s = rw s
 
-  pub outcome-first-length : inShape h m ≡ true → (length a ≡ carriers m → ⊥) → refuses 2 [] ≡ pairOutcome h m a b
+  pub pair-first-length : inShape h m ≡ true → (length a ≡ carriers m → ⊥) → refuses 2 [] ≡ pairOutcome h m a b
   unfolding pairOutcome
-  outcome-first-length s e = rw (s, ne-eqb (length a) (carriers m) e)
+  pair-first-length s p = rw (s, ne-eqb (length a) (carriers m) p)
 
-  module _ (s : inShape h m ≡ true) (p : length a ≡ carriers m) where
-    pub outcome-second-length : (length b ≡ carriers m → ⊥) → refuses 2 [] ≡ pairOutcome h m a b
-    unfolding pairOutcome
-    outcome-second-length e = rw (s, eq-eqb (length a) (carriers m) p, ne-eqb (length b) (carriers m) e)
+  pub pair-second-length : inShape h m ≡ true → length a ≡ carriers m → (length b ≡ carriers m → ⊥) →
+      refuses 2 [] ≡ pairOutcome h m a b
+  unfolding pairOutcome
+  pair-second-length s p r = rw (s, eq-eqb (length a) (carriers m) p, ne-eqb (length b) (carriers m) r)
 
-    pub outcome-words : (q : ℕ) → q ≡ phases h → length b ≡ carriers m → wordsOutcome q a b ≡ pairOutcome h m a b
-    unfolding pairOutcome wordsOutcome badSymbol
-    outcome-words q e r =
-        rw (
-          e,
-          s,
-          eq-eqb (length a) (carriers m) p,
-          eq-eqb (length b) (carriers m) r,
-          golayPair-balanced h m a b (inShape-range h m s .h-least) p r,
-        )
+-- what is known past those tests, with q for 2^h
+pub record Sized (h m q : ℕ) (a b : List ℕ) : Type 0 where
+  pub shape : inShape h m ≡ true
+  pub turn : q ≡ phases h
+  pub first : length a ≡ carriers m
+  pub second : length b ≡ carriers m
+
+module _ (h m q : ℕ) (a b : List ℕ) (s : Sized h m q a b) where
+  pair-symbols : pairOutcome h m a b ≡
+      refuseAt 3 (firstBad q a) (1 ∷ [])
+      (refuseAt 3 (firstBad q b) (2 ∷ []) (gives (golayPair h m (symbolAt a) (symbolAt b))))
+  unfolding pairOutcome badSymbol
+  pair-symbols =
+      rw (s .shape, s .turn, eq-eqb (length a) (carriers m) (s .first), eq-eqb (length b) (carriers m) (s .second))
+
+  pub pair-first-symbol : (i : ℕ) → some i ≡ firstBad q a → refuses 3 (i ∷ 1 ∷ []) ≡ pairOutcome h m a b
+  pair-first-symbol i e = rw (pair-symbols, sym e)
+
+  below : (w : List ℕ) → none ≡ firstBad q w → SymbolsBelow h w
+  below w g =
+      let r = inShape-range h m (s .shape) in
+      record {
+        h-least = r .h-least;
+        h-most = r .h-most;
+        symbols = λ i l. rw (s .turn) at (firstBad-none q w g i l);
+      }
+
+  module _ (e : none ≡ firstBad q a) where
+    pub pair-second-symbol : (i : ℕ) → some i ≡ firstBad q b → refuses 3 (i ∷ 2 ∷ []) ≡ pairOutcome h m a b
+    pair-second-symbol i f = rw (pair-symbols, sym e, sym f)
+
+    module _ (f : none ≡ firstBad q b) where
+      pub pair-given : gives (golayPair h m (symbolAt a) (symbolAt b)) ≡ pairOutcome h m a b
+      pair-given = rw (pair-symbols, sym e, sym f)
+
+      pub pair-words : Words h a b
+      pair-words = record { first = below a e; second = below b f; lengths = cc }

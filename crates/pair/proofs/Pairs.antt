@@ -1,72 +1,35 @@
--- Laws of the pair check. In order: the code's counts are the definition's, for it takes each phase modulo 2^h;
--- a pair is one whose counts agree; no word is a pair with itself.
--- Not here: the counts of the code (Tallies).  Assumes nothing.
+-- Laws of the pair check. In order: the test of a pair is the claim; no word is a pair with itself.
+-- Assumes nothing.
 use mathlib.Core.Path.{_≡_, refl, sym, ap}
 use mathlib.Core.Bool.{Bool, true, false}
-use mathlib.Core.List.{List}
 use mathlib.Core.Logic.{_↔_}
-use Prim.Native.Nat.{ℕ, zero, suc, _+_, _-_, _*_, _/_, _%_, _≤_, _<_}
+use Prim.Native.Nat.{ℕ, zero, suc, _+_, _-_, _*_, _%_, _≤_, _<_}
 use native.Mathlib.Nat.{mod-eq-of-lt, mod-lt, pow-suc, mod-eq-sub-mod}
 use native.Mathlib.Omega.{arith}
 use lib.Dec.{leb, eqb}
-use lib.ListN.{length}
 use lib.Pow.{pow-pos, pow-mono}
 use borrow.Author.Tests.{leb-true, leb-false, eq-eqb, eqb-true, ne-eqb}
-use Rattle.range.specs.Below.{sumBelow, countBelow, allBelow, oneIf}
-use Rattle.range.proofs.Tests.{allBelow-of, allBelow-at, allBelow-not, allBelow-cong}
-use Rattle.rules.specs.Shape.{phases, halfTurn, carriers}
-use Rattle.rules.specs.Pair.{minus, phaseCount, pairCount, golayPair}
-use Rattle.rules.specs.Word.{symbolAt}
-use Rattle.pair.specs.Tally.{tallyBefore, tally, tallies, agreesAt, balancedAt, balanced}
+use Rattle.range.specs.Below.{sumBelow, countBelow, oneIf}
+use Rattle.range.proofs.Tests.{allBelow-of, allBelow-at, allBelow-not}
 use Rattle.range.proofs.FromOne.{fromOne-of, fromOne-at, fromOne-not}
+use Rattle.rules.specs.Shape.{phases, halfTurn, carriers}
+use Rattle.rules.specs.Pair.{minus, phaseCount, pairCount, GolayPair, golayPair}
+use Rattle.pair.specs.Words.{phasesAgree}
 
-pub phases-double : (h : ℕ) → 1 ≤ h → phases h ≡ halfTurn h * 2
-phases-double zero l = absurd (omega (arith, l))
-phases-double (suc h) l = let e : suc h - 1 ≡ h = omega arith in rw e (pow-suc 2 h)
+module _ (h m : ℕ) (a b : ℕ → ℕ) where
+  pub golayPair-at : golayPair h m a b ≡ true → GolayPair h m a b
+  unfolding golayPair
+  golayPair-at e u l s k r =
+      eqb-true _ _ (allBelow-at (phases h) _ (fromOne-at (carriers m) (phasesAgree h (carriers m) a b) e u s l) k r)
 
-pub pairCount-tallies : (h n : ℕ) (a b : List ℕ) (u k : ℕ) → length a ≡ n → length b ≡ n →
-    pairCount h n (symbolAt a) (symbolAt b) u k ≡ tallies (phases h) a b u (k % phases h)
-unfolding pairCount phaseCount tallies tally tallyBefore
-pairCount-tallies h n a b u k p r = rw (p, r)
+  pub golayPair-of : GolayPair h m a b → golayPair h m a b ≡ true
+  unfolding golayPair
+  golayPair-of e =
+      fromOne-of (carriers m) (phasesAgree h (carriers m) a b)
+      (λ u s l. allBelow-of (phases h) _ (λ k r. eq-eqb _ _ (e u l s k r)))
 
-pub agreesAt-phases : (h n : ℕ) (a b : List ℕ) (u k : ℕ) → 1 ≤ h → length a ≡ n → length b ≡ n → k < phases h →
-    eqb (pairCount h n (symbolAt a) (symbolAt b) u k) (pairCount h n (symbolAt a) (symbolAt b) u (k + halfTurn h)) ≡ agreesAt (phases h) a b u k
-unfolding agreesAt
-agreesAt-phases h n a b u k l p r s =
-    let e : halfTurn h ≡ phases h / 2 = omega (arith, phases-double h l) in
-    rw (pairCount-tallies h n a b u k p r, pairCount-tallies h n a b u (k + halfTurn h) p r, mod-eq-of-lt s, e)
-
-pub golayPair-balanced : (h m : ℕ) (a b : List ℕ) → 1 ≤ h → length a ≡ carriers m → length b ≡ carriers m →
-    golayPair h m (symbolAt a) (symbolAt b) ≡ balanced (phases h) a b
-unfolding golayPair balanced balancedAt
-golayPair-balanced h m a b l p r =
-    rw p
-    (allBelow-cong _ _ _ (λ u _. allBelow-cong _ _ _ (λ k s. agreesAt-phases h (carriers m) a b (suc u) k l p r s)))
-
--- the two counts of a phase, compared
-abbrev agrees : ℕ → ℕ → (ℕ → ℕ) → (ℕ → ℕ) → ℕ → ℕ → Bool
-agrees h m a b u k = eqb (pairCount h (carriers m) a b u k) (pairCount h (carriers m) a b u (k + halfTurn h))
-
--- the counts agree at each shift from 1 to N - 1 and each phase
-abbrev pub CountsAgree : ℕ → ℕ → (ℕ → ℕ) → (ℕ → ℕ) → Type 0
-CountsAgree h m a b =
-    (u : ℕ) → 1 ≤ u → u < carriers m → (k : ℕ) → k < phases h →
-    pairCount h (carriers m) a b u k ≡ pairCount h (carriers m) a b u (k + halfTurn h)
-
-pub golayPair-at : (h m : ℕ) (a b : ℕ → ℕ) → golayPair h m a b ≡ true → CountsAgree h m a b
-unfolding golayPair
-golayPair-at h m a b e u l s k r =
-    let each = fromOne-at (carriers m) (λ v. allBelow (phases h) (agrees h m a b v)) e u s l in
-    eqb-true _ _ (allBelow-at (phases h) (agrees h m a b u) each k r)
-
-pub golayPair-of : (h m : ℕ) (a b : ℕ → ℕ) → CountsAgree h m a b → golayPair h m a b ≡ true
-unfolding golayPair
-golayPair-of h m a b e =
-    fromOne-of (carriers m) (λ u. allBelow (phases h) (agrees h m a b u))
-    (λ u s l. allBelow-of (phases h) (agrees h m a b u) (λ k r. eq-eqb _ _ (e u l s k r)))
-
-pub golayPair-iff : (h m : ℕ) (a b : ℕ → ℕ) → (golayPair h m a b ≡ true) ↔ CountsAgree h m a b
-golayPair-iff h m a b = (golayPair-at h m a b, golayPair-of h m a b)
+  pub golayPair-iff : (golayPair h m a b ≡ true) ↔ GolayPair h m a b
+  golayPair-iff = (golayPair-at, golayPair-of)
 
 -- at the last shift one place is left, the first, with this difference
 abbrev ends : ℕ → ℕ → (ℕ → ℕ) → ℕ
@@ -91,6 +54,10 @@ double-mod-ne s d l h e = split (leb (s * 2) (d + s)) refl
         omega (arith, e, mod-eq-sub-mod b, mod-eq-of-lt {n = d + s - s * 2} {m = s * 2} (omega (arith, h)))
     split false r = omega (arith, e, mod-eq-of-lt {n = d + s} {m = s * 2} (leb-false _ _ r))
 
+pub phases-double : (h : ℕ) → 1 ≤ h → phases h ≡ halfTurn h * 2
+phases-double zero l = absurd (omega (arith, l))
+phases-double (suc h) l = let e : suc h - 1 ≡ h = omega arith in rw e (pow-suc 2 h)
+
 add-half-mod-ne : (h d : ℕ) → 1 ≤ h → d < phases h → (d + halfTurn h) % phases h ≡ d → ⊥
 add-half-mod-ne h d l s e =
     double-mod-ne (halfTurn h) d (pow-pos (h - 1)) (rw (phases-double h l) at s) (rw (phases-double h l) at e)
@@ -111,8 +78,6 @@ pub golayPair-self : (h m : ℕ) (a : ℕ → ℕ) → 1 ≤ h → 1 ≤ m → g
 unfolding golayPair
 golayPair-self h m a l r =
     let n = carriers m in
-    let d = ends h n a in
     let p : 2 ≤ n = pow-mono {i = 1} {j = m} r in
-    let unlike : agrees h m a a (n - 1) d ≡ false = ne-eqb _ _ (pairCount-ends-ne h n a l (omega arith)) in
-    fromOne-not n (λ u. allBelow (phases h) (agrees h m a a u)) (n - 1) (omega arith) (omega arith)
-    (allBelow-not (phases h) (agrees h m a a (n - 1)) d (ends-lt h n a) unlike)
+    fromOne-not n (phasesAgree h n a a) (n - 1) (omega arith) (omega arith)
+    (allBelow-not (phases h) _ (ends h n a) (ends-lt h n a) (ne-eqb _ _ (pairCount-ends-ne h n a l (omega arith))))

@@ -1,17 +1,17 @@
 // The pair check of document 01: whether two words cancel at every shift and phase.
-// `check` refuses what the table says, in its order; each other function counts, one loop each.
-// What its answer says in the document's terms is a definition in specs/Told.antt, and what the loops count is in
-// specs/Tally.antt.
+// `check` refuses what the table says, in its order; each other function counts, or compares counts.
+// What the answer says in the document's terms is in specs/Told.antt, and what is counted in rules, specs/Pair.antt.
 use kinds::Refusal;
 use kinds::Search;
 ghost use mathlib.Core.Path.{_≡_};
-ghost use Prim.Native.Nat.{_<_, _≤_};
+ghost use Prim.Native.Nat.{ℕ, _≤_};
 ghost use lib.ListN.{length};
-ghost use Rattle.rules.specs.Pair.{minus};
+ghost use Rattle.rules.specs.Shape.{carriers};
+ghost use Rattle.rules.specs.Pair.{phaseCount, pairCount, golayPair};
 ghost use Rattle.rules.specs.Word.{symbolAt};
 ghost use Rattle.rules.specs.Refusal.{pairOutcome};
-ghost use Rattle.pair.specs.Tally.{WordOf, PairOf, tally, tallies, balancedAt, balanced, wordsOutcome};
 ghost use Rattle.pair.specs.Told.{pairedTold};
+ghost use Rattle.pair.specs.Words.{SymbolsBelow, Words, phasesAgree};
 
 // Which word a refusal speaks of: kinds 1 and 2 speak of either, kind 3 of one.
 pub enum Which {
@@ -27,7 +27,9 @@ pub enum Paired {
     Refused(Refusal, Which),
 }
 
-// Whether two words are a pair: at each shift and phase their counts agree.
+// Whether two words are a Golay pair: at every shift from 1 to N - 1 and every phase the counts of 01 agree. Refuses 1
+// a shape out of range, 2 a word that is not N long (either one), 3 a symbol that is 2^h or more: the first such place
+// of the first word, else of the second, and which word. Both words are only read.
 pub fn check(h: u32, m: u32, first: &[u8], second: &[u8]) -> Paired
     ensures { λ r. ⌜ pairedTold r ≡ pairOutcome h m (now (first .entry)) (now (second .entry)) ⌝ }
 {
@@ -42,21 +44,13 @@ pub fn check(h: u32, m: u32, first: &[u8], second: &[u8]) -> Paired
     if second.len() != n {
         return Paired::Refused(Refusal::Length, Which::Either);
     }
-    check_words(q, first, second)
-}
-
-// The same for words of one length, with q for 2^h.
-fn check_words(q: u64, first: &[u8], second: &[u8]) -> Paired
-    requires { ⌜ ((1 ≤ q) × (q ≤ 256)) × (length (now second) ≡ length (now first)) ⌝ }
-    ensures { λ r. ⌜ pairedTold r ≡ wordsOutcome q (now (first .entry)) (now (second .entry)) ⌝ }
-{
     if let Search::At(place) = shape::first_bad(q, first) {
         return Paired::Refused(Refusal::Symbol(place), Which::First);
     }
     if let Search::At(place) = shape::first_bad(q, second) {
         return Paired::Refused(Refusal::Symbol(place), Which::Second);
     }
-    if all_shifts(q, first, second) {
+    if all_shifts(h, first, second) {
         Paired::Yes
     } else {
         Paired::No
@@ -64,13 +58,14 @@ fn check_words(q: u64, first: &[u8], second: &[u8]) -> Paired
 }
 
 // Whether the counts agree at every shift from 1 to the length less 1.
-fn all_shifts(q: u64, first: &[u8], second: &[u8]) -> bool
-    requires { ⌜ PairOf q (now first) (now second) ⌝ }
-    ensures { λ r. ⌜ r ≡ balanced q (now (first .entry)) (now (second .entry)) ⌝ }
+fn all_shifts(h: u32, first: &[u8], second: &[u8]) -> bool
+    requires { ⌜ Words h (now first) (now second) ⌝ }
+    ensures { λ r. ⌜ ((m : ℕ) → length (now (first .entry)) ≡ carriers m →
+        r ≡ golayPair h m (symbolAt (now (first .entry))) (symbolAt (now (second .entry)))) ⌝ }
 {
     let mut u = 1;
     while u < first.len() {
-        if !all_phases(q, first, second, u) {
+        if !all_phases(h, first, second, u) {
             return false;
         }
         u += 1;
@@ -79,15 +74,15 @@ fn all_shifts(q: u64, first: &[u8], second: &[u8]) -> bool
 }
 
 // Whether at shift u the count for each phase equals the count half a turn on.
-fn all_phases(q: u64, first: &[u8], second: &[u8], u: usize) -> bool
-    requires { ⌜ PairOf q (now first) (now second) × (u ≤ length (now first)) ⌝ }
-    ensures { λ r. ⌜ r ≡ balancedAt q (now (first .entry)) (now (second .entry)) u ⌝ }
+fn all_phases(h: u32, first: &[u8], second: &[u8], u: usize) -> bool
+    requires { ⌜ Words h (now first) (now second) × (u ≤ length (now first)) ⌝ }
+    ensures { λ r. ⌜ r ≡ phasesAgree h (length (now (first .entry))) (symbolAt (now (first .entry)))
+        (symbolAt (now (second .entry))) u ⌝ }
 {
+    let q = shape::power(h);
     let mut k = 0;
     while k < q {
-        let here = both(q, first, second, u, k);
-        let across = both(q, first, second, u, (k + q / 2) % q);
-        if here != across {
+        if both(h, first, second, u, k) != both(h, first, second, u, k + q / 2) {
             return false;
         }
         k += 1;
@@ -96,34 +91,27 @@ fn all_phases(q: u64, first: &[u8], second: &[u8], u: usize) -> bool
 }
 
 // The count over both words together.
-fn both(q: u64, first: &[u8], second: &[u8], u: usize, k: u64) -> usize
-    requires { ⌜ PairOf q (now first) (now second) × (u ≤ length (now first)) ⌝ }
-    ensures { λ r. ⌜ r ≡ tallies q (now (first .entry)) (now (second .entry)) u k ⌝ }
+fn both(h: u32, first: &[u8], second: &[u8], u: usize, k: u64) -> usize
+    requires { ⌜ Words h (now first) (now second) × (u ≤ length (now first)) ⌝ }
+    ensures { λ r. ⌜ r ≡ pairCount h (length (now (first .entry))) (symbolAt (now (first .entry)))
+        (symbolAt (now (second .entry))) u k ⌝ }
 {
-    count(q, first, u, k) + count(q, second, u, k)
+    count(h, first, u, k) + count(h, second, u, k)
 }
 
-// How many places have a symbol that is k more, modulo q, than the symbol u places on.
-fn count(q: u64, word: &[u8], u: usize, k: u64) -> usize
-    requires { ⌜ WordOf q (now word) × (u ≤ length (now word)) ⌝ }
-    ensures { λ r. ⌜ r ≡ tally q (now (word .entry)) u k ⌝ }
+// How many places have a symbol that is k more, modulo 2^h, than the symbol u places on, which is at j.
+fn count(h: u32, word: &[u8], u: usize, k: u64) -> usize
+    requires { ⌜ SymbolsBelow h (now word) × (u ≤ length (now word)) ⌝ }
+    ensures { λ r. ⌜ r ≡ phaseCount h (length (now (word .entry))) (symbolAt (now (word .entry))) u k ⌝ }
 {
-    let end = word.len() - u;
+    let q = shape::power(h);
     let mut found = 0;
-    let mut i = 0;
-    while i < end {
-        if difference(q, word, i, i + u) == k {
+    let mut j = u;
+    while j < word.len() {
+        if shape::minus(q, word[j - u], word[j]) == k % q {
             found += 1;
         }
-        i += 1;
+        j += 1;
     }
     found
-}
-
-// The symbol at i minus the symbol at j, modulo q.
-fn difference(q: u64, word: &[u8], i: usize, j: usize) -> u64
-    requires { ⌜ WordOf q (now word) × ((i < length (now word)) × (j < length (now word))) ⌝ }
-    ensures { λ r. ⌜ r ≡ minus q (symbolAt (now (word .entry)) i) (symbolAt (now (word .entry)) j) ⌝ }
-{
-    shape::minus(q, word[i], word[j])
 }

@@ -6,20 +6,24 @@ use mathlib.Core.Bool.{true}
 use Prim.Native.Nat.{ℕ, _-_, _≤_, _<_}
 use native.Mathlib.Omega.{arith}
 use lib.ListN.{length}
+use denote.Ref.{now}
 use borrow.Author.Count.{below-more}
 use borrow.Author.Needs.{needs}
 use borrow.Author.Tests.{not-true, not-false}
-use denote.Ref.{now}
-use Rattle.pair.specs.Tally.{balancedAt, balanced}
 use Rattle.range.proofs.FromOne.{fromOne-of, fromOne-not}
+use Rattle.rules.specs.Pair.{golayPair}
+use Rattle.rules.specs.Word.{symbolAt}
+use Rattle.pair.specs.Words.{phasesAgree}
 use Rattle.pair.proofs.all_shifts.Statement.{statement}
 use Rattle.pair.proofs.all_shifts.Tie as tie
 
 abbrev Inv-loop : tie.InvT-loop
-Inv-loop q first second u₀ u = (1 ≤ u) × ((v : ℕ) → v < u → 1 ≤ v → balancedAt q first second v ≡ true)
+Inv-loop h first second u₀ u =
+    (1 ≤ u)
+    × ((v : ℕ) → v < u → 1 ≤ v → phasesAgree h (length first) (symbolAt first) (symbolAt second) v ≡ true)
 
 abbrev μ-loop : tie.MeasureT-loop
-μ-loop q first second u₀ u = length first - u
+μ-loop h first second u₀ u = length first - u
 
 loop-holds : tie.Need-loop-holds Inv-loop μ-loop
 loop-holds c = (omega arith, λ v h l. absurd (omega arith))
@@ -28,15 +32,16 @@ all-phases-requires : tie.Need-all-phases-requires Inv-loop μ-loop
 all-phases-requires c κs = search needs
 
 returns : tie.Need-returns Inv-loop μ-loop
-unfolding balanced
-returns c =
+unfolding golayPair
+returns c m e =
     let at-loop = c .before .before .before in
     let args = at-loop .before .before .before .args in
-    sym
-    (fromOne-not (length (now (args .first))) (balancedAt (args .q) (now (args .first)) (now (args .second)))
-    (at-loop .loop .u)
-    (c .before .before .loop-test .taken) (at-loop .loop .inv .0)
-    (sym (c .before .all-phases .ensures) ∙ not-true _ (c .if1 .taken)))
+    let n = length (now (args .first)) in
+    rw (sym e)
+    (sym
+    (fromOne-not n (phasesAgree (args .h) n (symbolAt (now (args .first))) (symbolAt (now (args .second))))
+    (at-loop .loop .u) (c .before .before .loop-test .taken) (at-loop .loop .inv .0)
+    (sym (c .before .all-phases .ensures) ∙ not-true _ (c .if1 .taken))))
 
 add-u : tie.Need-add-u Inv-loop μ-loop
 add-u c = search needs
@@ -52,12 +57,14 @@ loop-again c = (
 )
 
 returns-2 : tie.Need-returns-2 Inv-loop μ-loop
-unfolding balanced
-returns-2 c =
+unfolding golayPair
+returns-2 c m e =
     let args = c .before .before .before .before .args in
-    sym
-    (fromOne-of (length (now (args .first))) (balancedAt (args .q) (now (args .first)) (now (args .second)))
-    (λ u h l. c .before .loop .inv .1 u (omega (arith, c .loop-test .left)) l))
+    let n = length (now (args .first)) in
+    rw (sym e)
+    (sym
+    (fromOne-of n (phasesAgree (args .h) n (symbolAt (now (args .first))) (symbolAt (now (args .second))))
+    (λ u s l. c .before .loop .inv .1 u (omega (arith, c .loop-test .left)) l)))
 
 pub all-shifts-spec : {M : Type 1} → statement M
 all-shifts-spec =

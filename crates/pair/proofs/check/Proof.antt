@@ -1,15 +1,28 @@
--- `pair::check` meets its contract: it refuses the shape, then the lengths, and past them the words decide.
+-- `pair::check` meets its contract: it refuses by the table, in its order, and past that the counts answer.
 -- Assumes nothing.
-use mathlib.Core.Path.{_≡_, sym, _∙_}
+use mathlib.Core.Path.{_≡_, sym, _∙_, ap}
 use mathlib.Core.Bool.{true}
-use native.Mathlib.Omega.{arith}
-use lib.Pow.{pow-pos, pow-mono}
+use mathlib.Core.Option.{none}
+use Prim.Native.Nat.{ℕ}
+use denote.Ref.{now}
 use borrow.Author.Needs.{needs}
 use borrow.Author.Tests.{not-true, not-false}
-use Rattle.rules.specs.Shape.{phases, carriers, inShape}
-use Rattle.rules.proofs.Range.{InRange, inShape-range}
-use Rattle.shape.proofs.Powers.{power-is}
-use Rattle.pair.proofs.Outcomes.{outcome-shape, outcome-first-length, outcome-second-length, outcome-words}
+use Rattle.rules.specs.Shape.{inShape, carriers}
+use Rattle.rules.specs.Outcome.{gives}
+use Rattle.rules.specs.Refusal.{pairOutcome}
+use Rattle.kinds.specs.Told.{searchTold}
+use Rattle.shape.specs.Symbols.{firstBad}
+use Rattle.shape.proofs.Powers.{power-phases, power-carriers}
+use Rattle.pair.proofs.Outcomes.{
+  pair-shape,
+  pair-first-length,
+  pair-second-length,
+  Sized,
+  pair-first-symbol,
+  pair-second-symbol,
+  pair-given,
+  pair-words,
+}
 use Rattle.pair.proofs.check.Statement.{statement}
 use Rattle.pair.proofs.check.Tie as tie
 
@@ -17,7 +30,7 @@ in-shape-requires : tie.Need-in-shape-requires
 in-shape-requires c κs = search needs
 
 returns : tie.Need-returns
-returns c = outcome-shape _ _ _ _ (sym (c .before .in-shape .ensures) ∙ not-true _ (c .if1 .taken))
+returns c = pair-shape _ _ _ _ (sym (c .before .in-shape .ensures) ∙ not-true _ (c .if1 .taken))
 
 power-requires : tie.Need-power-requires
 power-requires c κs = search needs
@@ -28,44 +41,102 @@ power-requires-2 c κs = search needs
 abbrev start : tie.Else1 → tie.Start
 start c = c .before .before .before .before
 
--- past the first test the shape is in range
+-- past the first test the shape is in range, so that n is 2^m
 shaped : (c : tie.Else1) → inShape (start c .args .h) (start c .args .m) ≡ true
 shaped c = sym (c .before .in-shape .ensures) ∙ not-false _ (c .if1 .left)
 
-ranged : (c : tie.Else1) → InRange (start c .args .h) (start c .args .m)
-ranged c = inShape-range _ _ (shaped c)
-
--- so that the two powers are 2^h and 2^m
-q-is : (c : tie.After-power) → c .power .result ≡ phases (start (c .before) .args .h)
-q-is c = c .power .ensures ∙ power-is _ (omega (arith, ranged (c .before) .h-most))
-
 n-is : (c : tie.After-power2) → c .power2 .result ≡ carriers (start (c .before .before) .args .m)
-n-is c = c .power2 .ensures ∙ power-is _ (omega (arith, ranged (c .before .before) .m-most))
+n-is c = c .power2 .ensures ∙ power-carriers (start (c .before .before) .args .h) _ (shaped (c .before .before))
 
 returns-2 : tie.Need-returns-2
 returns-2 c =
-    outcome-first-length _ _ _ _ (shaped (c .before .before .before)) (λ e. c .if2 .taken (e ∙ sym (n-is (c .before))))
+    pair-first-length _ _ _ _ (shaped (c .before .before .before)) (λ e. c .if2 .taken (e ∙ sym (n-is (c .before))))
 
 returns-3 : tie.Need-returns-3
 returns-3 c =
-    let sized = c .before .before in
-    outcome-second-length _ _ _ _ (shaped (sized .before .before)) (c .before .if2 .left ∙ n-is sized)
-    (λ e. c .if3 .taken (e ∙ sym (n-is sized)))
+    let powers = c .before .before in
+    pair-second-length _ _ _ _ (shaped (powers .before .before)) (c .before .if2 .left ∙ n-is powers)
+    (λ e. c .if3 .taken (e ∙ sym (n-is powers)))
 
-check-words-requires : tie.Need-check-words-requires
-check-words-requires c κs =
-    let powers = c .before .before .before in
-    let most = ranged (powers .before) .h-most in
-    let least = pow-pos (start (powers .before) .args .h) in
-    let q = q-is powers in
-    ((omega (arith, q, least), omega (arith, q, pow-mono most)), c .if3 .left ∙ sym (c .before .if2 .left))
+-- past the lengths, with q as the code has it
+abbrev entry : tie.Else3 → tie.Start
+entry c = start (c .before .before .before .before)
+
+abbrev q : tie.Else3 → ℕ
+q c = c .before .before .before .power .result
+
+sized : (c : tie.Else3) → let args = entry c .args in
+    Sized (args .h) (args .m) (q c) (now (args .first)) (now (args .second))
+sized c =
+    let powers = c .before .before in
+    let s = shaped (powers .before .before) in
+    record {
+      shape = s;
+      turn = powers .before .power .ensures ∙ power-phases _ (entry c .args .m) s;
+      first = c .before .if2 .left ∙ n-is powers;
+      second = c .if3 .left ∙ n-is powers;
+    }
+
+first-bad-requires : tie.Need-first-bad-requires
+first-bad-requires c κs = search needs
+
+enum-known-place : tie.Need-enum-known-place
+enum-known-place c = search needs
 
 returns-4 : tie.Need-returns-4
 returns-4 c =
-    let sized = c .before .before .before in
-    c .check-words .ensures
-    ∙ outcome-words _ _ _ _ (shaped (sized .before .before)) (c .before .before .if2 .left ∙ n-is sized) _
-    (q-is (sized .before)) (c .before .if3 .left ∙ n-is sized)
+    let searched = c .before .before .before in
+    pair-first-symbol _ _ _ _ _ (sized (searched .before)) _
+    (sym (ap searchTold (c .before .place .given .1)) ∙ searched .first-bad .ensures)
+
+enum-told : tie.Need-enum-told
+enum-told c = search needs
+
+-- past each match its search has found nothing
+abbrev past : tie.After-enum-told → tie.Else3
+past c = c .before .before .before
+
+abbrev told : tie.After-enum-told2 → tie.After-enum-told
+told c = c .before .before .before
+
+first-good : (c : tie.After-enum-told) → none ≡ firstBad (q (past c)) (now (entry (past c) .args .first))
+first-good c = sym (ap searchTold (c .enum-told .given .1)) ∙ c .before .before .first-bad .ensures
+
+second-good : (c : tie.After-enum-told2) →
+    none ≡ firstBad (q (past (told c))) (now (entry (past (told c)) .args .second))
+second-good c = sym (ap searchTold (c .enum-told2 .given .1)) ∙ c .before .before .first-bad2 .ensures
+
+first-bad-requires-2 : tie.Need-first-bad-requires-2
+first-bad-requires-2 c κs = search needs
+
+enum-known-place-2 : tie.Need-enum-known-place-2
+enum-known-place-2 c = search needs
+
+returns-5 : tie.Need-returns-5
+returns-5 c =
+    let searched = c .before .before .before in
+    pair-second-symbol _ _ _ _ _ (sized (past (searched .before))) (first-good (searched .before)) _
+    (sym (ap searchTold (c .before .place2 .given .1)) ∙ searched .first-bad2 .ensures)
+
+enum-told-2 : tie.Need-enum-told-2
+enum-told-2 c = search needs
+
+all-shifts-requires : tie.Need-all-shifts-requires
+all-shifts-requires c κs = pair-words _ _ _ _ _ (sized (past (told c))) (first-good (told c)) (second-good c)
+
+-- what the counts say is the answer
+answered : (c : tie.After-all-shifts) → let args = entry (past (told (c .before))) .args in
+    gives (c .all-shifts .result) ≡ pairOutcome (args .h) (args .m) (now (args .first)) (now (args .second))
+answered c =
+    let s = sized (past (told (c .before))) in
+    ap gives (c .all-shifts .ensures _ (s .first))
+    ∙ pair-given _ _ _ _ _ s (first-good (told (c .before))) (second-good (c .before))
+
+returns-6 : tie.Need-returns-6
+returns-6 c = ap gives (sym (c .if4 .taken)) ∙ answered (c .before)
+
+returns-7 : tie.Need-returns-7
+returns-7 c = ap gives (sym (c .if4 .left)) ∙ answered (c .before)
 
 pub check-spec : {M : Type 1} → statement M
 check-spec =
@@ -77,5 +148,14 @@ check-spec =
     power-requires-2
     returns-2
     returns-3
-    check-words-requires
-    returns-4)
+    first-bad-requires
+    enum-known-place
+    returns-4
+    enum-told
+    first-bad-requires-2
+    enum-known-place-2
+    returns-5
+    enum-told-2
+    all-shifts-requires
+    returns-6
+    returns-7)

@@ -1,61 +1,90 @@
--- `pair::count` meets its contract: each turn counts its place where the difference is k.
--- Invariant: i is at most the end, and `found` counts the places before i. Measure: what is left up to the end.
+-- `pair::count` meets its contract: each turn counts its place where the difference is k modulo 2^h.
+-- Invariant: j is from u to the length, and `found` is the count of the first j symbols. Measure: the symbols left.
 -- Assumes nothing.
-use mathlib.Core.Path.{_≡_, _∙_, ap}
+use mathlib.Core.Path.{_≡_, sym, _∙_}
 use mathlib.Core.Logic.{⊎-elim}
 use Prim.Native.Nat.{_-_, _≤_}
 use native.Mathlib.Omega.{arith}
+use lib.ListN.{length}
+use lib.Pow.{pow-pos, pow-mono}
 use denote.Ref.{now}
 use borrow.Author.Needs.{needs}
-use Rattle.pair.specs.Tally.{tally, tallyBefore}
-use Rattle.pair.proofs.Tallies.{tallyBefore-zero, tallyBefore-le, tally-hit, tally-miss}
+use Rattle.rules.specs.Shape.{phases}
+use Rattle.rules.specs.Pair.{phaseCount}
+use Rattle.rules.specs.Word.{symbolAt}
+use Rattle.shape.proofs.Powers.{power-is}
+use Rattle.pair.proofs.Counts.{phaseCount-none, phaseCount-le, phaseCount-hit, phaseCount-miss}
 use Rattle.pair.proofs.count.Statement.{statement}
 use Rattle.pair.proofs.count.Tie as tie
 
 abbrev Inv-loop : tie.InvT-loop
-Inv-loop q word u k end found₀ i₀ found i =
-    (i ≤ end) × (found ≡ tallyBefore q word u k i)
+Inv-loop h word u k q found₀ j₀ found j =
+    (u ≤ j) × (j ≤ length word) × (found ≡ phaseCount h j (symbolAt word) u k)
 
 abbrev μ-loop : tie.MeasureT-loop
-μ-loop q word u k end found₀ i₀ found i = end - i
+μ-loop h word u k q found₀ j₀ found j = length word - j
 
-sub-end : tie.Need-sub-end Inv-loop μ-loop
-sub-end c = search needs
+power-requires : tie.Need-power-requires Inv-loop μ-loop
+power-requires c κs = search needs
+
+-- q is 2^h, at least 1
+q-is : (c : tie.After-power Inv-loop μ-loop) → c .power .result ≡ phases (c .before .before .args .h)
+q-is c = c .power .ensures ∙ power-is _ (omega (arith, c .before .before .pre .0 .h-most))
+
+q-least : (c : tie.After-power Inv-loop μ-loop) → 1 ≤ c .power .result
+q-least c = rw (q-is c) (pow-pos _)
 
 loop-holds : tie.Need-loop-holds Inv-loop μ-loop
-loop-holds c = (omega arith, tallyBefore-zero _ _ _ _)
+loop-holds c = (omega arith, omega arith, phaseCount-none _ _ _ _)
 
-add-difference : tie.Need-add-difference Inv-loop μ-loop
-add-difference c = search needs
+sub-minus : tie.Need-sub-minus Inv-loop μ-loop
+sub-minus c = search needs
 
-difference-requires : tie.Need-difference-requires Inv-loop μ-loop
-difference-requires c κs = (c .before .before .before .pre .0, (omega arith, omega arith))
+shared-slice-read-minus : tie.Need-shared-slice-read-minus Inv-loop μ-loop
+shared-slice-read-minus c = search needs
+
+shared-slice-read-minus-2 : tie.Need-shared-slice-read-minus-2 Inv-loop μ-loop
+shared-slice-read-minus-2 c = search needs
+
+minus-requires : tie.Need-minus-requires Inv-loop μ-loop
+minus-requires c κs = search needs
+
+rem-if1 : tie.Need-rem-if1 Inv-loop μ-loop
+rem-if1 c = omega (arith, q-least (c .before .before .before .before .before))
 
 add-found : tie.Need-add-found Inv-loop μ-loop
 add-found c =
-    let args = c .before .before .before .before .before .args in
-    omega (arith, tallyBefore-le (args .q) (now (args .word)) (args .u) (args .k) (c .before .before .before .loop .i))
+    let loop = c .before .before .before .before .before .loop in
+    let few : loop .found ≤ loop .j = rw (loop .inv .2) (phaseCount-le _ _ _ _ _) in
+    omega arith
 
-add-i : tie.Need-add-i Inv-loop μ-loop
-add-i c = search needs
+add-j : tie.Need-add-j Inv-loop μ-loop
+add-j c = search needs
 
 loop-less : tie.Need-loop-less Inv-loop μ-loop
 loop-less c = search needs
 
 loop-again : tie.Need-loop-again Inv-loop μ-loop
 loop-again c =
-    let so-far = c .before .before .before .loop .inv .1 in
-    let is = c .before .difference .ensures in (
+    let at-loop = c .before .before .before .before .before in
+    let turn = q-is (at-loop .before) in
+    let below = at-loop .before .before .before .pre .0 in
+    let inv = at-loop .loop .inv in
+    -- the symbols are below 2^h, so that `minus` is the difference modulo it
+    let is = c .before .minus .ensures (q-least (at-loop .before)) (omega (arith, turn, pow-mono (below .h-most)))
+    (omega (arith, turn, below .symbols (at-loop .loop .j) (omega arith))) in (
+      omega arith,
       omega arith,
       ⊎-elim
-          (λ w. w .1 ∙ tally-hit _ _ _ _ _ _ _ so-far is (w .0 .taken))
-          (λ w. w .1 ∙ tally-miss _ _ _ _ _ _ _ so-far is (w .0 .left))
+          (λ w. w .1 ∙ phaseCount-hit _ _ _ _ _ _ _ _ turn (inv .0) (inv .2) is (w .0 .taken))
+          (λ w. w .1 ∙ phaseCount-miss _ _ _ _ _ _ _ _ turn (inv .0) (inv .2) is (w .0 .left))
           (c .if1 .came),
     )
 
 returns : tie.Need-returns Inv-loop μ-loop
-unfolding tally
-returns c = c .before .loop .inv .1 ∙ ap (tallyBefore _ _ _ _) (omega (arith, c .loop-test .left))
+returns c =
+    let e : c .before .loop .j ≡ length (now (c .before .before .before .before .args .word)) = omega arith in
+    rw (sym e) (c .before .loop .inv .2)
 
 pub count-spec : {M : Type 1} → statement M
 count-spec =
@@ -63,12 +92,15 @@ count-spec =
     (tie.spec
     Inv-loop
     μ-loop
-    sub-end
+    power-requires
     loop-holds
-    add-difference
-    difference-requires
+    sub-minus
+    shared-slice-read-minus
+    shared-slice-read-minus-2
+    minus-requires
+    rem-if1
     add-found
-    add-i
+    add-j
     loop-less
     loop-again
     returns)
