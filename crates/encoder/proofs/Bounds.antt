@@ -1,9 +1,9 @@
 -- Bounds on what the encoder adds up, so that no sum of the code wraps.
 -- In order: one term of the sum over rows, the sum; one link, the sum over links; the row of the first step.  Assumes nothing.
-use mathlib.Core.List.{List}
 use Prim.Native.Nat.{ℕ, _+_, _-_, _*_, _≤_, _<_}
 use native.Mathlib.Nat.{mul-le-mul, le-refl}
 use native.Mathlib.Omega.{arith}
+use mathlib.Core.List.{List}
 use lib.ListN.{getD}
 use Rattle.range.specs.Below.{sumBelow}
 use Rattle.range.proofs.Sums.{sumBelow-le}

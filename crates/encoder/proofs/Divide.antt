@@ -1,13 +1,13 @@
 -- A label number taken apart by dividing, lowest coefficient first.
 -- Defines:  Taken h m l q r rest c    c and the coefficients above r are taken; rest is what stands above them
 -- In order: before the first division but one; a division; after the last.  Assumes nothing.
-use mathlib.Core.Path.{_≡_, refl, sym, _∙_, ap}
+use Prim.Native.Nat.{ℕ, zero, suc, _+_, _-_, _*_, _/_, _%_, _^_, _≤_, _<_}
+use native.Mathlib.Nat.{pow-zero, pow-suc, one-mul, div-div-eq-div-mul, eq-or-lt-of-le, not-le-of-lt}
+use native.Mathlib.Omega.{arith}
+use mathlib.Core.Path.{_≡_, sym, _∙_, ap}
 use mathlib.Core.List.{List}
 use mathlib.Core.Logic.{_⊎_, inl, inr}
-use Prim.Native.Nat.{ℕ, zero, suc, _+_, _-_, _*_, _/_, _%_, _^_, _≤_, _<_}
-use native.Mathlib.Nat.{pow-zero, pow-suc, mul-one, one-mul, div-div-eq-div-mul, eq-or-lt-of-le, not-le-of-lt}
-use native.Mathlib.Omega.{arith}
-use lib.ListN.{length, getD, set, replicate, length-set}
+use lib.ListN.{length, getD, set, length-set}
 use lib.Seq.{getD-set-same, getD-set-other}
 use Rattle.rules.specs.Shape.{greatestM, phases}
 use Rattle.rules.specs.Label.{labelPath, coefficient, constant, rowCoefficient}

@@ -1,30 +1,28 @@
 -- What the encoder combines at a place is the formula of 01: generator rows, path steps and coefficients, modulo 2^h.
 -- In order: the paths in use are paths; links as a sum; each part of the symbol; the symbol; what the arrays hold; the two lifts.  Assumes nothing.
-use mathlib.Core.Path.{_≡_, refl, sym, _∙_, ap, ap₂, subst}
-use mathlib.Core.List.{List, [], _∷_}
-use mathlib.Core.Bool.{true}
-use Prim.Native.Nat.{ℕ, zero, suc, _+_, _-_, _*_, _/_, _%_, _^_, _≤_, _<_, zero-le}
+use Prim.Native.Nat.{ℕ, zero, suc, _+_, _-_, _*_, _/_, _%_, _≤_, _<_}
 use native.Mathlib.Nat.{lt-of-lt-of-le, suc-ne-zero, suc-inj, mul-div-right, one-mul}
 use native.Mathlib.Numerals.{add-one}
 use native.Mathlib.Omega.{arith}
-use lib.Dec.{T, leb, lit<, le→leb}
+use mathlib.Core.Path.{_≡_, refl, sym, _∙_, ap, ap₂, subst}
+use mathlib.Core.List.{List, [], _∷_}
+use lib.Dec.{lit<}
 use lib.ListN.{length, getD}
-use borrow.Author.Tests.{le-leb}
 use Rattle.range.specs.Below.{sumBelow, listBelow}
 use Rattle.range.proofs.Sums.{sumBelow-cong}
 use Rattle.range.proofs.Lists.{listBelow-at, listBelow-cong}
-use Rattle.rules.specs.Shape.{greatestM, phases, halfTurn, carriers, pathsInUse, inM}
+use Rattle.rules.specs.Shape.{greatestM, phases, halfTurn, carriers}
 use Rattle.rules.specs.Place.{digit, generatorAt}
-use Rattle.rules.specs.Path.{IsPath, paths, pathAt, headOf}
+use Rattle.rules.specs.Path.{IsPath, pathAt, headOf}
 use Rattle.rules.specs.Label.{labels, labelPath, labelOf, rowCoefficient}
-use Rattle.rules.specs.Word.{links, formAt, wordAt, partnerAt, wordOf, partnerOf}
+use Rattle.rules.specs.Word.{links, wordAt, partnerAt, wordOf, partnerOf}
+use Rattle.rules.proofs.Range.{InRange, range-inM, phases-most, carriers-most}
+use Rattle.paths.specs.Steps.{pathRow}
 use Rattle.paths.proofs.Members.{isPath-in}
 use Rattle.words.proofs.Labels.{labelPath-lt, coefficient-lt, constant-lt}
 use Rattle.words.proofs.Forms.{formAt-rows, partnerAt-form}
 use Rattle.words.proofs.Used.{used-isPath}
 use Rattle.words.proofs.Inject.{phases-half}
-use Rattle.rules.proofs.Range.{InRange, range-inM, phases-most, carriers-most}
-use Rattle.paths.specs.Steps.{pathRow}
 use Rattle.encoder.specs.Steps.{generatorRows, cell, linearOf, linksOf, symbolOf, liftedAt, Cells, Small, Walk}
 use Rattle.encoder.proofs.Matrix.{generatorAt-digit, generatorRows-at, generatorRows-cells}
 

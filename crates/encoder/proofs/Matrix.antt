@@ -1,11 +1,11 @@
 -- The generator as code holds it. In order: a row past the first holds digits; the rows, and that they are 01's; every cell
 -- is 0 or 1.
 -- Assumes nothing.
-use mathlib.Core.Path.{_≡_, refl, sym, _∙_, ap, subst}
-use mathlib.Core.List.{List, []}
 use Prim.Native.Nat.{ℕ, zero, suc, _≤_, _<_, suc-le-suc}
 use native.Mathlib.Nat.{not-suc-le-zero, le-refl, le-of-suc-le-suc, lt-of-lt-of-le}
 use native.Mathlib.Omega.{arith}
+use mathlib.Core.Path.{_≡_, refl, sym, _∙_, ap, subst}
+use mathlib.Core.List.{List, []}
 use lib.ListN.{getD}
 use lib.Pow.{pow-mono}
 use Rattle.range.specs.Below.{listBelow}

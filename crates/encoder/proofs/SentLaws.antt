@@ -1,14 +1,14 @@
 -- Laws of the promise of encode and partner.
 -- In order: the outcome, refusal by refusal; the promise of a refusal and of a word written; only one outcome satisfies it.
 -- Assumes nothing.
-use mathlib.Core.Path.{_≡_, refl, sym, _∙_, ap, subst}
-use mathlib.Core.Bool.{Bool, true, false, not}
-use mathlib.Core.List.{List, []}
 use Prim.Native.Nat.{ℕ}
+use mathlib.Core.Path.{_≡_, refl, sym, _∙_, ap, subst}
+use mathlib.Core.Bool.{true, false}
+use mathlib.Core.List.{List, []}
 use lib.ListN.{length}
 use borrow.Author.Tests.{eq-eqb, ne-eqb}
 use Rattle.rules.specs.Shape.{inShape, carriers}
-use Rattle.rules.specs.Outcome.{Outcome, gives, refuses, allowed}
+use Rattle.rules.specs.Outcome.{Outcome, refuses, allowed}
 use Rattle.rules.specs.Table.{badMessage}
 use Rattle.rules.specs.Refusal.{sendRefusal}
 use Rattle.kinds.proofs.ToldLaws.{refusalTold-inj, gives-not-refuses}

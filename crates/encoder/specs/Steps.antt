@@ -7,9 +7,9 @@
 --           Split h m l t        the parts t of label l
 --           Cells m g, Small m c, Walk m p    bounds on the arrays, so that no sum wraps and no index lies outside
 -- Assumes nothing: these are definitions.
+use Prim.Native.Nat.{ℕ, suc, _+_, _-_, _*_, _/_, _%_, _≤_, _<_}
 use mathlib.Core.Path.{_≡_}
 use mathlib.Core.List.{List, []}
-use Prim.Native.Nat.{ℕ, suc, _+_, _-_, _*_, _/_, _%_, _≤_, _<_}
 use lib.ListN.{getD}
 use Rattle.range.specs.Below.{sumBelow, listBelow}
 use Rattle.rules.specs.Shape.{greatestH, greatestM, carriers, phases}

@@ -7,28 +7,17 @@ use kinds::Refusal;
 use shape::PLACES;
 use shape::ROWS;
 use shape::STEPS;
+ghost use Prim.Native.Nat.{_+_, _-_, _*_, _%_, _≤_, _<_};
 ghost use mathlib.Core.Path.{_≡_};
-ghost use mathlib.Core.Bool.{true, cond};
-ghost use mathlib.Core.List.{List, []};
-ghost use Prim.Native.Nat.{ℕ, zero, suc, _+_, _-_, _*_, _%_, _≤_, _<_};
-ghost use lib.ListN.{length, getD};
+ghost use mathlib.Core.Bool.{true};
+ghost use lib.ListN.{length};
 ghost use Rattle.range.specs.Below.{listBelow};
-ghost use Rattle.rules.specs.Shape.{pathsInUse, carriers, inShape, phases, halfTurn, greatestH, greatestM};
+ghost use Rattle.rules.specs.Shape.{carriers, inShape, phases, halfTurn, greatestH, greatestM};
 ghost use Rattle.rules.specs.Place.{digit};
 ghost use Rattle.rules.specs.Label.{labels, labelOf};
 ghost use Rattle.rules.specs.Word.{wordOf, partnerOf};
-ghost use Rattle.encoder.specs.Steps.{
-  generatorRows,
-  cell,
-  linearOf,
-  linksOf,
-  symbolOf,
-  liftedAt,
-  Split,
-  Cells,
-  Small,
-  Walk,
-};
+ghost use Rattle.encoder.specs.Steps.{generatorRows, cell, linearOf, linksOf, symbolOf, liftedAt, Split, Cells};
+ghost use Rattle.encoder.specs.Steps.{Small, Walk};
 ghost use Rattle.encoder.specs.Sent.{Sent};
 
 // The answer of encode and partner.

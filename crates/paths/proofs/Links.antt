@@ -2,12 +2,12 @@
 -- In order: a number with a neighbour on either side is linked to two; what is linked to one alone is an end;
 -- equal heads and equal links make equal lists; lists with equal links have the same ends; the law.
 -- Not here: the links of one pair (Pairs), which lists are paths (Members).  Assumes nothing.
-use mathlib.Core.Path.{_≡_, refl, sym, _∙_}
-use mathlib.Core.Logic.{_≢_, _⊎_, inl, inr}
-use mathlib.Core.List.{List, [], _∷_, List·Memᴰ, List·Memᴰ·not-nil, List·Memᴰ·cases-cons, List·Memᴰ·eq-of-singleton}
 use Prim.Native.Nat.{ℕ, _*_, _%_, _≤_, _<_}
 use native.Mathlib.Decide.{decLe, decLt}
 use native.Mathlib.Omega.{arith}
+use mathlib.Core.Path.{_≡_, refl, sym, _∙_}
+use mathlib.Core.Logic.{_≢_, _⊎_, inl, inr}
+use mathlib.Core.List.{List, [], _∷_, List·Memᴰ, List·Memᴰ·not-nil, List·Memᴰ·cases-cons, List·Memᴰ·eq-of-singleton}
 use lib.ListN.{length}
 use Rattle.rules.specs.Path.{IsPath, headOf, lastOf, times}
 use Rattle.rules.specs.Word.{links}

@@ -2,12 +2,12 @@
 -- In order: a path is such an order; the law, each way and both; a path by its number; the elements of a path are
 -- in 1..m, and no two are equal.
 -- Not here: orders of any list (Orders), the order of the paths (Increasing).  Assumes nothing.
-use mathlib.Core.Path.{_∙_}
-use mathlib.Core.Logic.{_≢_}
-use mathlib.Core.List.{List, [], List·Memᴰ}
 use Prim.Native.Nat.{ℕ, zero, suc, _≤_, _<_}
 use native.Mathlib.Decide.{decLe}
 use native.Mathlib.Omega.{arith}
+use mathlib.Core.Path.{_∙_}
+use mathlib.Core.Logic.{_≢_}
+use mathlib.Core.List.{List, [], List·Memᴰ}
 use lib.Dec.{ltb, ltb→lt, lt→ltb}
 use lib.ListN.{length, getD}
 use Rattle.rules.specs.Path.{IsPath, headOf, lastOf, times, orders, upTo, paths, pathAt}

@@ -2,14 +2,14 @@
 -- In order: the factorial; the orders of n numbers are n ! many; tests of order; the orders of 1, .., m, none twice,
 -- as many rising from first to last as falling; the law; the paths in use are among them; the paths of 4.
 -- Not here: which lists are paths (Members), their order (Increasing).  Assumes nothing.
-use mathlib.Core.Path.{_≡_, refl, _∙_, ap}
-use mathlib.Core.Logic.{_≢_}
-use mathlib.Core.Bool.{Bool, true, false, not, _&&_}
-use mathlib.Core.List.{List, [], _∷_, map, flatMap, reverse, List·Memᴰ}
 use Prim.Native.Nat.{ℕ, zero, suc, _+_, _*_, _≤_, _<_}
 use native.Mathlib.Nat.{le-antisymm}
 use native.Mathlib.Decide.{decLt}
 use native.Mathlib.Omega.{arith}
+use mathlib.Core.Path.{_≡_, refl, _∙_, ap}
+use mathlib.Core.Logic.{_≢_}
+use mathlib.Core.Bool.{Bool, true, false, not, _&&_}
+use mathlib.Core.List.{List, [], _∷_, map, flatMap, reverse, List·Memᴰ}
 use lib.Dec.{T, leb, ltb, leb→le, ltb→lt, lt→ltb, lit≤}
 use lib.ListN.{length, length-map}
 use Rattle.range.specs.Below.{listBelow}

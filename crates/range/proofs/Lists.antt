@@ -1,11 +1,11 @@
 -- Laws of listBelow. In order: its length, its elements, one more at the end, equal elements, a list as its own elements, a list filled from the front, rows end to end.
 -- Not here: sums and counts (Sums), tests and searches (Tests).  Assumes nothing.
-use mathlib.Core.Path.{_≡_, refl, sym, _∙_, ap}
-use mathlib.Core.List.{List, [], _∷_, _++_, append-nil}
 use Prim.Native.Nat.{ℕ, zero, suc, _+_, _<_, zero-le, suc-le-suc}
 use native.Mathlib.Nat.{zero-add, not-suc-le-zero, le-of-suc-le-suc}
 use native.Mathlib.Numerals.{add-one}
 use native.Mathlib.Omega.{arith}
+use mathlib.Core.Path.{_≡_, refl, sym, _∙_, ap}
+use mathlib.Core.List.{List, [], _∷_, _++_, append-nil}
 use lib.ListN.{length, getD, drop, set, List·getD-append}
 use lib.Seq.{drop-length, getD-append-add}
 use Rattle.range.specs.Below.{sumBelow, listBelow, rowsBelow}

@@ -1,11 +1,11 @@
 -- Laws of sumBelow and countBelow. In order: one more summand at the end; equal summands; zeros; sums of sums; multiples; bounds.
 -- Not here: tests and searches (Tests), lists (Lists).  Assumes nothing.
-use mathlib.Core.Path.{_≡_, refl, sym, _∙_, ap}
-use mathlib.Core.Bool.{Bool, true, false}
 use Prim.Native.Nat.{ℕ, zero, suc, _+_, _*_, _≤_, _<_, zero-le, suc-le-suc}
 use native.Mathlib.Nat.{mul-add, mul-zero, le-refl, suc-mul, not-suc-le-zero, le-of-suc-le-suc}
 use native.Mathlib.Numerals.{add-one}
 use native.Mathlib.Omega.{arith}
+use mathlib.Core.Path.{_≡_, refl, sym, _∙_, ap}
+use mathlib.Core.Bool.{Bool, true, false}
 use Rattle.range.specs.Below.{sumBelow, countBelow, oneIf}
 
 pub sumBelow-suc : (n : ℕ) (f : ℕ → ℕ) → sumBelow (suc n) f ≡ sumBelow n f + f n

@@ -1,10 +1,10 @@
 -- Laws of allBelow and firstBelow. In order: all, from each place, at each place, one more, refuted; the first, found, not found, and back.
 -- Not here: sums and counts (Sums), lists (Lists).  Assumes nothing.
-use mathlib.Core.Path.{_≡_, refl, sym, _∙_, ap, subst}
-use mathlib.Core.Bool.{Bool, true, false, _&&_, false≢true, and-true}
-use mathlib.Core.Option.{Option, none, some}
 use Prim.Native.Nat.{ℕ, zero, suc, _<_, zero-le, suc-le-suc}
 use native.Mathlib.Nat.{not-suc-le-zero, le-of-suc-le-suc}
+use mathlib.Core.Path.{_≡_, refl, sym, _∙_, ap}
+use mathlib.Core.Bool.{Bool, true, false, _&&_, false≢true, and-true}
+use mathlib.Core.Option.{Option, none, some}
 use Rattle.range.specs.Below.{allBelow, firstBelow, zeroOr}
 
 -- both sides of a conjunction

@@ -1,19 +1,20 @@
 -- What the symbols show of a label. In order: as the number of the label's parts; its bounds; the next path; a word shows
 -- its own label; the test of a message; the message that has a word, and where no message has it.  Assumes nothing.
-use mathlib.Core.Path.{_≡_, refl, sym, _∙_, ap, ap₂, subst}
-use mathlib.Core.Bool.{Bool, true, false, false≢true}
-use mathlib.Core.List.{List, []}
-use mathlib.Core.Option.{Option, none, some}
-use Prim.Native.Nat.{ℕ, zero, suc, _+_, _-_, _*_, _%_, _^_, _≤_, _<_, zero-le, suc-le-suc}
-use native.Mathlib.Nat.{mod-lt, zero-mul, add-mul, one-mul, lt-irrefl, pow-zero, pow-suc, le-refl, lt-trans, lt-of-lt-of-le, mul-le-mul-left}
+use Prim.Native.Nat.{ℕ, zero, suc, _+_, _-_, _*_, _^_, _≤_, _<_}
+use native.Mathlib.Nat.{mod-lt, zero-mul, add-mul, one-mul, lt-irrefl, pow-zero, pow-suc, le-refl, lt-trans}
+use native.Mathlib.Nat.{lt-of-lt-of-le, mul-le-mul-left}
 use native.Mathlib.Omega.{arith}
-use lib.Dec.{T, eqb}
-use lib.ListN.{length, getD}
+use mathlib.Core.Path.{_≡_, refl, sym, _∙_, ap, ap₂, subst}
+use mathlib.Core.Bool.{Bool, true, false}
+use mathlib.Core.List.{List}
+use mathlib.Core.Option.{none, some}
+use lib.Dec.{eqb}
+use lib.ListN.{getD}
 use lib.Arith.{digits-lt}
 use lib.Pow.{pow-pos, pow-mono}
 use lib.Seq.{ext-getD}
 use borrow.Author.Tests.{eq-eqb, eqb-true}
-use Rattle.range.specs.Below.{allBelow, firstBelow}
+use Rattle.range.specs.Below.{allBelow}
 use Rattle.range.proofs.Tests.{allBelow-of, allBelow-at, firstBelow-some, firstBelow-none}
 use Rattle.rules.specs.Shape.{phases, carriers, pathsInUse, messageBits}
 use Rattle.rules.specs.Label.{labels, labelPath, coefficient, constant, labelOf, messageOf}
@@ -21,22 +22,15 @@ use Rattle.rules.specs.Word.{wordAt, wordOf}
 use Rattle.rules.specs.Pair.{minus}
 use Rattle.rules.specs.Word.{symbolAt}
 use Rattle.rules.specs.Table.{messageWith}
+use Rattle.rules.proofs.Range.{InRange, inShape-range, range-inM, coefficientBits-le}
 use Rattle.words.proofs.Digits.{one-lt}
-use Rattle.words.proofs.Labels.{
-  phases-pow,
-  numberOf,
-  numberOf-lt,
-  numberOf-back,
-  labelPath-lt,
-  labelOf-lt,
-  messageOf-labelOf,
-}
+use Rattle.words.proofs.Labels.{phases-pow, numberOf, numberOf-lt, numberOf-back, labelPath-lt, labelOf-lt}
+use Rattle.words.proofs.Labels.{messageOf-labelOf}
 use Rattle.words.proofs.Horner.{numberOf-split, numberOf-cong}
 use Rattle.words.proofs.Forms.{length-wordOf, wordOf-at}
-use Rattle.words.proofs.Readings.{Good, wordAt-zero, coefficient-read}
+use Rattle.words.proofs.Readings.{wordAt-zero, coefficient-read}
 use Rattle.words.proofs.Used.{used-good}
 use Rattle.words.proofs.Inject.{wordOf-inj}
-use Rattle.rules.proofs.Range.{InRange, inShape-range, range-inM, coefficientBits-le}
 use Rattle.reader.specs.Shown.{Word, shown, shownUpTo, lowOf, labelWith}
 
 pub shown-lt : (h m : ℕ) (w : List ℕ) (k : ℕ) → shown h m w k < phases h

@@ -5,10 +5,10 @@
 --           lowOf h m w         c_1, .., c_m, c as one number: the label number with path number 0
 --           labelWith h m w n   the label number with path number n
 -- Laws: proofs/ShownLaws.antt.  Assumes nothing: these are definitions.
+use Prim.Native.Nat.{ℕ, zero, suc, _+_, _-_, _*_, _^_, _<_}
 use mathlib.Core.Path.{_≡_}
 use mathlib.Core.Bool.{true}
 use mathlib.Core.List.{List}
-use Prim.Native.Nat.{ℕ, zero, suc, _+_, _-_, _*_, _^_, _<_}
 use lib.ListN.{length}
 use Rattle.rules.specs.Shape.{inShape, phases, carriers}
 use Rattle.rules.specs.Pair.{minus}

@@ -1,13 +1,12 @@
 -- Laws of Best. In order: only one outcome satisfies it; a tied best from tests; equal values give label 0, tied.
 -- Assumes nothing.
-use mathlib.Core.Path.{_≡_, refl, sym, _∙_, ap, subst}
-use mathlib.Core.Bool.{Bool, true, false, not}
-use mathlib.Core.Logic.{_≢_, _↔_}
 use Prim.Native.Nat.{ℕ, _<_, _≤_}
 use native.Mathlib.Nat.{not-suc-le-zero, le-antisymm, lt-of-not-le, le-of-suc-le-suc}
 use native.Mathlib.Decide.{decLt}
+use mathlib.Core.Path.{_≡_, refl, sym, subst}
+use mathlib.Core.Bool.{Bool, true, false, not}
+use mathlib.Core.Logic.{_≢_, _↔_}
 use lib.Dec.{T, T-not}
-use lib.IntN.{ℤ, pos, negsuc}
 use Rattle.range.specs.Below.{allBelow}
 use Rattle.range.proofs.Tests.{allBelow-at}
 use Rattle.rules.specs.Best.{Best}

@@ -1,12 +1,12 @@
 -- Every starred case of 01 is right: the one claim about the list of specs/Known.antt, by computation.
 -- In order: a shape outside its range; the soft case; the hard case; the claim.  Assumes nothing.
-use mathlib.Core.Path.{_≡_, refl}
-use mathlib.Core.Bool.{Bool, true, false, and-false}
-use mathlib.Core.List.{List, [], _∷_, flatMap}
 use Prim.Native.Nat.{ℕ, _≤_}
 use native.Mathlib.Omega.{arith}
+use mathlib.Core.Path.{_≡_, refl}
+use mathlib.Core.Bool.{true, false, and-false}
+use mathlib.Core.List.{[], _∷_, flatMap}
 use lib.Dec.{lit<, leb}
-use lib.IntN.{ℤ, pos}
+use lib.IntN.{pos}
 use lib.ListN.{length, replicate, length-replicate}
 use lib.Signed.{leZ}
 use borrow.Author.Tests.{eqb-false, eq-eqb, ne-eqb}
@@ -20,17 +20,11 @@ use Rattle.rules.specs.Word.{links, formAt, wordAt, partnerAt, wordOf, p
 use Rattle.rules.specs.Pair.{minus, phaseCount, pairCount, golayPair}
 use Rattle.rules.specs.Distance.{hamming, distance}
 use Rattle.rules.specs.Soft.{heard, correlation, softLength}
-use Rattle.rules.specs.Outcome.{refuses, allowed}
+use Rattle.rules.specs.Outcome.{allowed}
 use Rattle.rules.specs.Table.{badShape, badSymbol, messageWith}
-use Rattle.rules.specs.Refusal.{
-  sendRefusal,
-  pairOutcome,
-  readOutcome,
-  softRefusal,
-  hardRefusal,
-  transformRefusal,
-}
-use Rattle.rules.specs.Known.{Refused1, reaching, Right, AllRight, starred, fourLeast, outsideM, soft, hard, silence}
+use Rattle.rules.specs.Refusal.{sendRefusal, pairOutcome, readOutcome, softRefusal, hardRefusal, transformRefusal}
+use Rattle.rules.specs.Known.{Refused1, reaching, Right, AllRight, starred, fourLeast, outsideM, soft, hard}
+use Rattle.rules.specs.Known.{silence}
 use Rattle.rules.proofs.Range.{inShape-range}
 use Rattle.rules.proofs.BestLaws.{best-of-tests}
 use Rattle.rules.proofs.Silence.{greatest-of-zeros}

@@ -1,29 +1,19 @@
 -- Bounds that a shape in range gives.
 -- In order: the ranges of h and m; w; the bits of a message number; the phases, the carriers, the paths in use.
 -- Assumes nothing.
-use mathlib.Core.Path.{_≡_, sym, subst}
-use mathlib.Core.Bool.{true}
-use mathlib.Core.List.{[], _∷_}
 use Prim.Native.Nat.{ℕ, zero, suc, _+_, _-_, _*_, _≤_}
 use native.Mathlib.Nat.{mul-le-mul}
 use native.Mathlib.Omega.{arith}
+use mathlib.Core.Path.{_≡_, sym, subst}
+use mathlib.Core.Bool.{true}
+use mathlib.Core.List.{[], _∷_}
 use lib.Dec.{T, leb, lit≤}
 use lib.ListN.{getD}
 use lib.Pow.{pow-mono}
 use borrow.Author.Tests.{leb-true, le-leb}
 use Rattle.range.proofs.Tests.{and-left, and-right, and-of}
-use Rattle.rules.specs.Shape.{
-  greatestH,
-  greatestM,
-  pathBits,
-  inH,
-  inM,
-  inShape,
-  phases,
-  carriers,
-  pathsInUse,
-  messageBits,
-}
+use Rattle.rules.specs.Shape.{greatestH, greatestM, pathBits, inH, inM, inShape, phases, carriers, pathsInUse}
+use Rattle.rules.specs.Shape.{messageBits}
 
 pub record InRange (h m : ℕ) : Type 0 where
   pub h-least : 1 ≤ h

@@ -1,17 +1,17 @@
 -- Soft values that are all zero: every correlation is zero, for two and four phases and every m.
 -- In order: a zero value is heard as zero; zeros sum to zero; the correlation; the best of equals.  Assumes nothing.
-use mathlib.Core.Path.{_≡_, refl, _∙_, sym, ap, subst}
-use mathlib.Core.Bool.{Bool, true, false, cond}
-use mathlib.Core.List.{List, [], _∷_}
-use Prim.Native.Nat.{ℕ, zero, suc, _+_, _*_, _^_, _<_, _≤_}
+use Prim.Native.Nat.{ℕ, zero, suc, _+_, _*_, _<_, _≤_}
 use native.Mathlib.Nat.{pow-le-pow-right, lt-of-lt-of-le, le-refl}
 use native.Mathlib.Omega.{arith}
+use mathlib.Core.Path.{_≡_, refl}
+use mathlib.Core.Bool.{Bool, true, false, cond}
+use mathlib.Core.List.{List}
 use lib.Dec.{eqb, lit≤}
 use lib.IntN.{ℤ, pos}
 use lib.ListN.{getD, replicate}
 use lib.Signed.{leZ}
 use Rattle.range.specs.Signed.{sumℤ, negatedIf}
-use Rattle.rules.specs.Shape.{carriers, messageBits, pathBits}
+use Rattle.rules.specs.Shape.{carriers, messageBits}
 use Rattle.rules.specs.Label.{labels, labelOf}
 use Rattle.rules.specs.Word.{wordAt}
 use Rattle.rules.specs.Soft.{heard, heardTwo, heardFour, correlation, softLength}

@@ -4,11 +4,11 @@
 --           Greatest h m ys l v tied          the greatest correlation over every label of the shape
 --           Nearest h m w l d tied            the least distance over every label of the shape
 -- Laws: proofs/BestLaws.antt (two outcomes that satisfy Best are equal).  Assumes nothing: these are definitions.
+use Prim.Native.Nat.{ℕ, _<_}
 use mathlib.Core.Path.{_≡_}
 use mathlib.Core.Bool.{Bool, true}
 use mathlib.Core.List.{List}
 use mathlib.Core.Logic.{_≢_, _↔_}
-use Prim.Native.Nat.{ℕ, _<_}
 use lib.Dec.{T, leb}
 use lib.IntN.{ℤ}
 use lib.Signed.{leZ}

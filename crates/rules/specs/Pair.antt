@@ -7,9 +7,9 @@
 --                                  for k + 2^(h-1)
 --           golayPair h m a b      the test of that
 -- Law: golayPair-iff in crate pair (the test is the claim).  Assumes nothing: these are definitions.
+use Prim.Native.Nat.{ℕ, suc, _+_, _-_, _%_, _≤_, _<_}
 use mathlib.Core.Path.{_≡_}
 use mathlib.Core.Bool.{Bool}
-use Prim.Native.Nat.{ℕ, suc, _+_, _-_, _%_, _≤_, _<_}
 use lib.Dec.{eqb}
 use Rattle.range.specs.Below.{countBelow, allBelow}
 use Rattle.rules.specs.Shape.{phases, halfTurn, carriers}

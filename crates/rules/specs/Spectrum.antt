@@ -6,8 +6,8 @@
 --           stage m k y i         what stage k writes at place i, from y
 --           stages m k y          what stands after stages 1, .., k
 -- Assumes nothing: these are definitions.
-use mathlib.Core.Bool.{Bool, _&&_, cond}
 use Prim.Native.Nat.{ℕ, zero, suc, _+_, _-_, _*_, _%_, _^_}
+use mathlib.Core.Bool.{Bool, _&&_, cond}
 use lib.Dec.{eqb}
 use lib.IntN.{ℤ, pos, negsuc, _+ℤ_, _-ℤ_}
 use lib.Signed.{leZ}

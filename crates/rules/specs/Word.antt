@@ -6,8 +6,8 @@
 --           wordOf h m g, partnerOf h m g    the N symbols for message number g
 --           symbolAt w i       the symbol at place i of a list of symbols
 -- Laws: crate words.  Assumes nothing: these are definitions.
-use mathlib.Core.List.{List, [], _∷_}
 use Prim.Native.Nat.{ℕ, suc, _+_, _*_, _%_}
+use mathlib.Core.List.{List, [], _∷_}
 use lib.ListN.{getD}
 use Rattle.range.specs.Below.{sumBelow, listBelow}
 use Rattle.rules.specs.Shape.{phases, halfTurn, carriers}

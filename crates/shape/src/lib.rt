@@ -4,9 +4,9 @@
 use kinds::MessageNumber;
 use kinds::Place;
 use kinds::Search;
+ghost use Prim.Native.Nat.{_^_, _≤_};
 ghost use mathlib.Core.Path.{_≡_};
 ghost use mathlib.Core.Bool.{not, cond, _&&_};
-ghost use Prim.Native.Nat.{_^_, _≤_};
 ghost use lib.Dec.{ltb};
 ghost use Rattle.rules.specs.Shape.{pathBits, inShape};
 ghost use Rattle.rules.specs.Label.{labelOf, messageOf};

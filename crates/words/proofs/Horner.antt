@@ -1,9 +1,9 @@
 -- The number of a label's parts (Labels: numberOf). In order: the path number stands apart; equal parts.
 -- Assumes nothing.
-use mathlib.Core.Path.{_≡_, _∙_, ap}
 use Prim.Native.Nat.{ℕ, zero, suc, _+_, _*_, _^_, _≤_, zero-le, suc-le-suc}
 use native.Mathlib.Nat.{add-assoc, suc-add, zero-mul, add-mul, mul-assoc, pow-suc, pow-zero, one-mul, le-refl, le-step}
 use native.Mathlib.Omega.{arith}
+use mathlib.Core.Path.{_≡_, _∙_, ap}
 use Rattle.rules.specs.Shape.{phases}
 use Rattle.words.proofs.Labels.{numberOf}
 

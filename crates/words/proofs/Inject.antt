@@ -2,13 +2,13 @@
 -- with an equal summand; multiples of half the phases; the links at the place with two digits; what two labels with the
 -- same word share, part by part; the law for labels, and for messages.
 -- Not here: what a word shows at single places (Readings), what is known of the paths in use (Used).  Assumes nothing.
-use mathlib.Core.Path.{_≡_, refl, sym, _∙_, ap, ap₂}
-use mathlib.Core.Bool.{Bool, true, false, _||_}
-use mathlib.Core.List.{List}
 use Prim.Native.Nat.{ℕ, suc, _+_, _-_, _*_, _/_, _%_, _^_, _≤_, _<_, zero-le, suc-le-suc}
 use native.Mathlib.Nat.{add-assoc, mod-add-mod, add-mul-mod-self-right, div-add-mod', suc-mul, mod-lt, mul-div-cancel}
 use native.Mathlib.Nat.{mul-mod-left, mul-comm, pow-succ', eq-of-mul-eq-mul-right, add-zero}
 use native.Mathlib.Omega.{arith}
+use mathlib.Core.Path.{_≡_, refl, sym, _∙_, ap, ap₂}
+use mathlib.Core.Bool.{Bool, true, false, _||_}
+use mathlib.Core.List.{List}
 use lib.Arith.{mod-mul}
 use lib.Dec.{T, eqb}
 use lib.ListN.{getD}

@@ -2,12 +2,12 @@
 -- c_1, .., c_m, then the constant, which stands lowest. In order: powers; bounds; the parts of a label without its
 -- lowest digit; the parts determine the label; the number of given parts, and its parts; message numbers.
 -- Not here: label order (Order), words (Readings).  Assumes nothing.
-use mathlib.Core.Path.{_≡_, refl, sym, _∙_}
 use Prim.Native.Nat.{ℕ, zero, suc, _+_, _-_, _*_, _/_, _%_, _^_, _≤_, _<_}
 use native.Mathlib.Nat.{pow-zero, pow-suc, pow-succ', mul-zero, mul-suc, mod-lt, div-div-eq-div-mul, div-add-mod'}
 use native.Mathlib.Nat.{le-refl, div-one, mul-one, mul-comm, suc-mul}
 use native.Mathlib.Decide.{ℕ-discrete}
 use native.Mathlib.Omega.{arith}
+use mathlib.Core.Path.{_≡_, refl, sym, _∙_}
 use lib.Arith.{digits-lt, digits-div, digits-mod}
 use lib.Pow.{pow-pos, pow-add, shr-lt}
 use Rattle.rules.specs.Shape.{phases, pathsInUse, pathBits, messageBits}

@@ -1,12 +1,12 @@
 -- Label order: labels with smaller numbers come first in dictionary order: rules' Label and Path. In order: a label as
 -- a numeral to base 2^h; dictionary order of lists put together; numerals in order; labels in order.
 -- Not here: the parts of a label (Labels).  Assumes nothing.
-use mathlib.Core.Path.{_≡_, _∙_, ap}
-use mathlib.Core.List.{List, [], _∷_, _++_}
 use Prim.Native.Nat.{ℕ, zero, suc, _+_, _*_, _/_, _%_, _<_}
 use native.Mathlib.Nat.{div-add-mod'}
 use native.Mathlib.Decide.{decLt}
 use native.Mathlib.Omega.{arith}
+use mathlib.Core.Path.{_≡_, _∙_, ap}
+use mathlib.Core.List.{List, [], _∷_, _++_}
 use lib.Pow.{shr-mono}
 use Rattle.range.specs.Below.{listBelow}
 use Rattle.range.proofs.Lists.{listBelow-suc, listBelow-cong}

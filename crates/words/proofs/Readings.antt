@@ -2,14 +2,14 @@
 -- shows c_k more. In order: links, by the digits on the path, and where no two neighbours have digit 1; the paths in
 -- question; a sum with one summand; the forms at these places; the words there; the coefficient read back.
 -- Not here: that the word determines its label (Inject).  Assumes nothing.
-use mathlib.Core.Path.{_≡_, refl, sym, _∙_}
-use mathlib.Core.Logic.{_≢_}
-use mathlib.Core.List.{List, [], _∷_}
 use Prim.Native.Nat.{ℕ, zero, suc, _+_, _-_, _*_, _%_, _^_, _≤_, _<_, suc-le-suc}
 use native.Mathlib.Nat.{le-refl, mul-zero, zero-mul, mul-one, zero-add, add-zero, mod-eq-of-lt, mod-add-mod}
 use native.Mathlib.Nat.{add-mod-right, not-suc-le-zero}
 use native.Mathlib.Decide.{ℕ-discrete}
 use native.Mathlib.Omega.{arith}
+use mathlib.Core.Path.{_≡_, refl, sym, _∙_}
+use mathlib.Core.Logic.{_≢_}
+use mathlib.Core.List.{List, [], _∷_}
 use lib.ListN.{length, getD}
 use Rattle.range.specs.Below.{sumBelow}
 use Rattle.range.proofs.Sums.{sumBelow-zero}

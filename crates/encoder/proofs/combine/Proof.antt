@@ -1,16 +1,14 @@
 -- `encoder::combine` meets its contract: place after place it writes the symbol.
 -- Invariant: the first i places hold their symbols, the others are as they were. Measure: the places left.  Assumes nothing.
-use mathlib.Core.Path.{_≡_, refl, sym, _∙_}
-use Prim.Native.Nat.{ℕ, _-_, _≤_}
+use Prim.Native.Nat.{_-_, _≤_}
 use native.Mathlib.Omega.{arith}
+use mathlib.Core.Path.{_≡_, refl}
 use lib.ListN.{length, length-set}
 use borrow.Author.Needs.{needs}
 use Rattle.range.proofs.Lists.{filled, filled-zero, filled-turn, filled-end}
 use Rattle.encoder.specs.Steps.{symbolOf}
 use Rattle.encoder.proofs.combine.Statement.{statement}
 use Rattle.encoder.proofs.combine.Tie as tie
-use Rattle.encoder.proofs.combine.Reads as reads
-use Rattle.encoder.proofs.combine.Lts as lts
 
 abbrev Inv-loop : tie.InvT-loop
 Inv-loop g p c m q s out₀ i₀ out i =

@@ -1,19 +1,15 @@
 -- `encoder::digits` meets its contract: place after place the row takes the digit x_r.
 -- Invariant: the first i places hold their digits, the others are as they were. Measure: the places left.  Assumes nothing.
-use mathlib.Core.Path.{_≡_, refl, sym, _∙_, ap}
-use mathlib.Core.List.{List}
 use Prim.Native.Nat.{ℕ, _-_, _/_, _%_, _^_, _≤_}
 use native.Mathlib.Omega.{arith}
+use mathlib.Core.Path.{_≡_, refl, ap}
 use lib.Dec.{lit≤}
-use lib.ListN.{length, replicate, length-replicate, length-set}
+use lib.ListN.{replicate}
 use borrow.Author.Needs.{needs}
-use Rattle.range.specs.Below.{listBelow}
 use Rattle.range.proofs.Lists.{filled, filled-zero, filled-turn, filled-end}
 use Rattle.rules.specs.Place.{digit}
 use Rattle.encoder.proofs.digits.Statement.{statement}
 use Rattle.encoder.proofs.digits.Tie as tie
-use Rattle.encoder.proofs.digits.Reads as reads
-use Rattle.encoder.proofs.digits.Lts as lts
 
 abbrev Inv-loop : tie.InvT-loop
 Inv-loop m r e row₀ i₀ row i = (i ≤ 32) × (row ≡ filled i (λ k. digit m k r) row₀)

@@ -1,15 +1,15 @@
 -- `encoder::fill` meets its contract: the arrays hold the generator, the path's steps and the label's coefficients.
 -- Assumes nothing.
-use mathlib.Core.Path.{_≡_, _∙_, ap, subst}
 use Prim.Native.Nat.{ℕ, _*_, _/_, _≤_, _<_}
 use native.Mathlib.Nat.{mul-le-mul}
 use native.Mathlib.Omega.{arith}
+use mathlib.Core.Path.{_≡_, _∙_, ap}
 use borrow.Author.Needs.{needs}
 use Rattle.rules.specs.Shape.{greatestH, phases, halfTurn, pathsInUse}
 use Rattle.rules.proofs.Range.{InRange, inShape-range, phases-least, phases-most, carriers-most}
+use Rattle.shape.proofs.Powers.{power-phases}
 use Rattle.paths.specs.Steps.{pathRow}
 use Rattle.words.proofs.Labels.{labelPath-lt}
-use Rattle.shape.proofs.Powers.{power-phases}
 use Rattle.encoder.proofs.Formula.{Held, held-cells, held-small, held-walk, held-symbols, phases-by-two}
 use Rattle.encoder.proofs.fill.Statement.{statement}
 use Rattle.encoder.proofs.fill.Tie as tie

@@ -1,8 +1,8 @@
 -- `encoder::linear` meets its contract: each turn adds one row.
 -- Invariant: the sum is that of the rows before r. Measure: the rows left.  Assumes nothing.
-use mathlib.Core.Path.{_≡_, refl, sym, _∙_, ap}
 use Prim.Native.Nat.{ℕ, _+_, _-_, _*_, _≤_}
 use native.Mathlib.Omega.{arith}
+use mathlib.Core.Path.{_≡_, refl, _∙_, ap}
 use lib.ListN.{getD}
 use borrow.Author.Needs.{needs}
 use Rattle.range.specs.Below.{sumBelow}
@@ -11,8 +11,6 @@ use Rattle.encoder.specs.Steps.{cell, linearOf}
 use Rattle.encoder.proofs.Bounds.{term-le, terms-le}
 use Rattle.encoder.proofs.linear.Statement.{statement}
 use Rattle.encoder.proofs.linear.Tie as tie
-use Rattle.encoder.proofs.linear.Reads as reads
-use Rattle.encoder.proofs.linear.Lts as lts
 
 abbrev Inv-loop : tie.InvT-loop
 Inv-loop g m i c n sum₀ r₀ sum r = (r ≤ n) × (sum ≡ sumBelow r (λ k. getD c k 0 * cell g k i))

@@ -1,8 +1,8 @@
 -- `encoder::links` meets its contract: each turn adds one link.
 -- Invariant: the sum is that of the links before k. Measure: the links left.  Assumes nothing.
-use mathlib.Core.Path.{_≡_, refl, _∙_, ap, ap₂}
-use Prim.Native.Nat.{ℕ, _+_, _-_, _*_, _≤_, _<_}
+use Prim.Native.Nat.{ℕ, _+_, _-_, _*_, _≤_}
 use native.Mathlib.Omega.{arith}
+use mathlib.Core.Path.{_≡_, refl, _∙_, ap, ap₂}
 use lib.ListN.{getD}
 use borrow.Author.Needs.{needs}
 use Rattle.range.specs.Below.{sumBelow}
@@ -11,8 +11,6 @@ use Rattle.encoder.specs.Steps.{cell, linksOf}
 use Rattle.encoder.proofs.Bounds.{link-le, linkSum-le}
 use Rattle.encoder.proofs.links.Statement.{statement}
 use Rattle.encoder.proofs.links.Tie as tie
-use Rattle.encoder.proofs.links.Reads as reads
-use Rattle.encoder.proofs.links.Lts as lts
 
 abbrev Inv-loop : tie.InvT-loop
 Inv-loop g m i p n sum₀ k₀ sum k = (k ≤ n) × (sum ≡ sumBelow k (λ j. cell g (getD p j 0) i * cell g (getD p (j + 1) 0) i))

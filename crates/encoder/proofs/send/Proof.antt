@@ -1,10 +1,10 @@
 -- `encoder::send` meets its contract: each test refuses by the table, in its order, and past them all the word is written.
 -- Assumes nothing.
-use mathlib.Core.Path.{_≡_, refl, sym, _∙_, ap, subst}
-use mathlib.Core.Bool.{Bool, true, false, not}
-use mathlib.Core.List.{[]}
 use Prim.Native.Nat.{ℕ, _*_, _<_}
 use native.Mathlib.Omega.{arith}
+use mathlib.Core.Path.{_≡_, refl, sym, _∙_, ap, subst}
+use mathlib.Core.Bool.{true, false, not}
+use mathlib.Core.List.{[]}
 use lib.ListN.{length}
 use denote.Ref.{now}
 use borrow.Author.Needs.{needs}
@@ -13,15 +13,13 @@ use Rattle.range.specs.Below.{listBelow}
 use Rattle.rules.specs.Shape.{inShape, carriers, halfTurn}
 use Rattle.rules.specs.Label.{labels}
 use Rattle.rules.specs.Table.{badMessage}
-use Rattle.words.proofs.Labels.{labelOf-lt}
-use Rattle.rules.proofs.Range.{InRange, inShape-range}
+use Rattle.rules.proofs.Range.{inShape-range}
 use Rattle.shape.proofs.Powers.{power-is, takes-tells}
+use Rattle.words.proofs.Labels.{labelOf-lt}
 use Rattle.encoder.specs.Steps.{liftedAt}
 use Rattle.encoder.proofs.SentLaws.{send-shape, send-length, send-message, send-allowed, sent-refused, sent-done}
 use Rattle.encoder.proofs.send.Statement.{statement}
 use Rattle.encoder.proofs.send.Tie as tie
-use Rattle.encoder.proofs.send.Reads as reads
-use Rattle.encoder.proofs.send.Lts as lts
 
 in-shape-requires : tie.Need-in-shape-requires
 in-shape-requires c κs = search needs

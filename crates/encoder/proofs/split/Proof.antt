@@ -1,21 +1,19 @@
 -- `encoder::split` meets its contract: each turn takes the lowest coefficient that is left and divides it away.
 -- Invariant: the coefficients above r are taken, and rest is what stands above them. Measure: r.  Assumes nothing.
-use mathlib.Core.Path.{_≡_, refl, sym, _∙_, ap}
-use Prim.Native.Nat.{ℕ, _-_, _/_, _%_, _^_, _≤_, _<_}
+use Prim.Native.Nat.{_≤_}
 use native.Mathlib.Nat.{mod-lt}
 use native.Mathlib.Omega.{arith}
+use mathlib.Core.Path.{_≡_, refl, _∙_}
 use lib.ListN.{replicate}
 use borrow.Author.Needs.{needs}
-use Rattle.rules.specs.Shape.{phases, pathsInUse}
+use Rattle.rules.specs.Shape.{phases}
 use Rattle.rules.specs.Label.{labelPath}
-use Rattle.words.proofs.Labels.{labelPath-lt}
 use Rattle.rules.proofs.Range.{InRange, inShape-range, phases-least, phases-most, pathsInUse-most}
 use Rattle.shape.proofs.Powers.{power-is}
+use Rattle.words.proofs.Labels.{labelPath-lt}
 use Rattle.encoder.proofs.Divide.{Taken, taken-first, taken-step, taken-path, taken-rows}
 use Rattle.encoder.proofs.split.Statement.{statement}
 use Rattle.encoder.proofs.split.Tie as tie
-use Rattle.encoder.proofs.split.Reads as reads
-use Rattle.encoder.proofs.split.Lts as lts
 
 abbrev Inv-loop : tie.InvT-loop
 Inv-loop h m label q c₀ rest₀ r₀ c rest r = Taken h m label q r rest c

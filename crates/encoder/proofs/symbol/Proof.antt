@@ -1,9 +1,9 @@
 -- `encoder::symbol` meets its contract: the sums are small, so nothing wraps before the remainder is taken.
 -- Assumes nothing.
-use mathlib.Core.Path.{_≡_, refl, sym, _∙_, ap}
-use Prim.Native.Nat.{ℕ, _+_, _*_, _/_, _%_, _≤_, _<_}
+use Prim.Native.Nat.{ℕ, _+_, _*_, _/_, _≤_}
 use native.Mathlib.Nat.{mul-le-mul, mod-lt}
 use native.Mathlib.Omega.{arith}
+use mathlib.Core.Path.{_≡_, _∙_, ap}
 use lib.ListN.{getD}
 use borrow.Author.Needs.{needs}
 use Rattle.encoder.specs.Steps.{cell, symbolOf}

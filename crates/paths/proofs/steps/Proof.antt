@@ -1,8 +1,8 @@
 -- `paths::steps` meets its contract: the constants are the table of the paths in use, which antt computes and compares.
 -- Assumes nothing.
-use mathlib.Core.List.{flatMap}
 use native.Mathlib.Nat.{not-le-of-lt}
 use native.Mathlib.Omega.{arith}
+use mathlib.Core.List.{flatMap}
 use lib.Pow.{pow-pos}
 use borrow.Author.Needs.{needs}
 use Rattle.range.specs.Below.{sumBelow, listBelow, rowsBelow}
@@ -12,8 +12,6 @@ use Rattle.paths.specs.Steps.{pathRow}
 use Rattle.paths.proofs.PathTable.{table, starts, start-lt, table-at}
 use Rattle.paths.proofs.steps.Statement.{statement}
 use Rattle.paths.proofs.steps.Tie as tie
-use Rattle.paths.proofs.steps.Reads as reads
-use Rattle.paths.proofs.steps.Lts as lts
 
 returns : tie.Need-returns
 returns c least _ _ = absurd (not-le-of-lt (c .if1 .taken) least)

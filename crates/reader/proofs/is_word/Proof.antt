@@ -1,8 +1,8 @@
 -- `reader::is_word` meets its contract: the word fits the buffer, whose first places are lent.
 -- Assumes nothing.
-use mathlib.Core.Path.{_≡_, sym}
 use Prim.Native.Nat.{_≤_}
 use native.Mathlib.Omega.{arith}
+use mathlib.Core.Path.{sym}
 use lib.ListN.{length, replicate}
 use lib.Seq.{length-take-le}
 use denote.Ref.{now}

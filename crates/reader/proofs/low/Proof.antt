@@ -1,25 +1,22 @@
 -- `reader::low` meets its contract: each turn takes one coefficient more, c_1 first.
 -- Invariant: number is the coefficients up to k, in base 2^h. Measure: the coefficients left.  Assumes nothing.
-use mathlib.Core.Path.{_≡_, refl, sym, _∙_, ap, subst}
-use Prim.Native.Nat.{ℕ, _+_, _-_, _*_, _^_, _≤_, _<_}
-use native.Mathlib.Nat.{mul-le-mul, le-of-lt}
+use Prim.Native.Nat.{_+_, _-_, _*_, _^_, _≤_, _<_}
+use native.Mathlib.Nat.{mul-le-mul}
 use native.Mathlib.Numerals.{add-one}
 use native.Mathlib.Omega.{arith}
+use mathlib.Core.Path.{_≡_, refl, _∙_}
 use lib.ListN.{length}
 use lib.Pow.{pow-pos}
 use denote.Ref.{now}
 use borrow.Author.Needs.{needs}
-use Rattle.rules.specs.Shape.{phases, carriers}
-use Rattle.rules.specs.Word.{symbolAt}
-use Rattle.words.proofs.Digits.{one-lt}
+use Rattle.rules.specs.Shape.{phases}
 use Rattle.rules.proofs.Range.{InRange, inShape-range, phases-least, phases-most}
 use Rattle.shape.proofs.Powers.{power-is}
+use Rattle.words.proofs.Digits.{one-lt}
 use Rattle.reader.specs.Shown.{shown, shownUpTo, lowOf}
 use Rattle.reader.proofs.ShownLaws.{shown-lt, shownUpTo-small, first-lt}
 use Rattle.reader.proofs.low.Statement.{statement}
 use Rattle.reader.proofs.low.Tie as tie
-use Rattle.reader.proofs.low.Reads as reads
-use Rattle.reader.proofs.low.Lts as lts
 
 abbrev Inv-loop : tie.InvT-loop
 Inv-loop h m word q number₀ k₀ number k = (k ≤ m) × (number ≡ shownUpTo h m word k)

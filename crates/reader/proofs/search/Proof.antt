@@ -1,12 +1,11 @@
 -- `reader::search` meets its contract: the word determines its message, so the first path that fits gives the message,
 -- and where none fits no message has the word.
 -- Invariant: label is the shown label with path n, and no path before n fits. Measure: the paths left.  Assumes nothing.
-use mathlib.Core.Path.{_≡_, sym, _∙_, ap, ap₂, subst}
-use mathlib.Core.Bool.{true, false, false≢true}
-use mathlib.Core.Option.{Option, some}
-use Prim.Native.Nat.{ℕ, _+_, _-_, _*_, _^_, _≤_, _<_}
-use native.Mathlib.Nat.{lt-of-lt-of-le}
+use Prim.Native.Nat.{ℕ, _+_, _-_, _^_, _≤_, _<_}
 use native.Mathlib.Omega.{arith}
+use mathlib.Core.Path.{_≡_, sym, _∙_, ap, ap₂, subst}
+use mathlib.Core.Bool.{false≢true}
+use mathlib.Core.Option.{some}
 use lib.Pow.{pow-mono}
 use denote.Ref.{now}
 use borrow.Author.Count.{below-none, below-more}
@@ -16,15 +15,14 @@ use Rattle.rules.specs.Label.{labels, messageOf}
 use Rattle.rules.specs.Word.{wordOf}
 use Rattle.rules.specs.Table.{messageWith}
 use Rattle.rules.specs.Refusal.{orNoWord}
-use Rattle.words.proofs.Labels.{phases-pow, messageOf-lt}
 use Rattle.rules.proofs.Range.{InRange, inShape-range, pathBits-le, coefficientBits-le, messageBits-le}
 use Rattle.shape.proofs.Powers.{power-is}
-use Rattle.reader.specs.Shown.{lowOf, labelWith}
-use Rattle.reader.proofs.ShownLaws.{labelWith-zero, labelWith-next, labelWith-lt, messageWith-some, messageWith-none}
+use Rattle.words.proofs.Labels.{phases-pow, messageOf-lt}
+use Rattle.reader.specs.Shown.{labelWith}
+use Rattle.reader.proofs.ShownLaws.{labelWith-zero, labelWith-next, labelWith-lt, messageWith-some}
+use Rattle.reader.proofs.ShownLaws.{messageWith-none}
 use Rattle.reader.proofs.search.Statement.{statement}
 use Rattle.reader.proofs.search.Tie as tie
-use Rattle.reader.proofs.search.Reads as reads
-use Rattle.reader.proofs.search.Lts as lts
 
 abbrev Inv-loop : tie.InvT-loop
 Inv-loop h m word step uses label₀ n₀ label n =

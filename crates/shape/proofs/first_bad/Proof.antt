@@ -1,9 +1,9 @@
 -- `shape::first_bad` meets its contract: the loop has passed no symbol that is q or more, and stops at the first.
 -- Invariant: i is at most the length, and each symbol before i is below q. Measure: what is left of the word.  Assumes nothing.
-use mathlib.Core.Path.{_≡_, sym}
-use mathlib.Core.Bool.{false}
 use Prim.Native.Nat.{ℕ, _-_, _≤_, _<_}
 use native.Mathlib.Omega.{arith}
+use mathlib.Core.Path.{_≡_, sym}
+use mathlib.Core.Bool.{false}
 use lib.Dec.{leb}
 use lib.ListN.{length}
 use denote.Ref.{now}
@@ -14,8 +14,6 @@ use Rattle.range.proofs.Tests.{firstBelow-some, firstBelow-none}
 use Rattle.rules.specs.Word.{symbolAt}
 use Rattle.shape.proofs.first_bad.Statement.{statement}
 use Rattle.shape.proofs.first_bad.Tie as tie
-use Rattle.shape.proofs.first_bad.Reads as reads
-use Rattle.shape.proofs.first_bad.Lts as lts
 
 abbrev Inv-loop : tie.InvT-loop
 Inv-loop q word i₀ i = (i ≤ length word) × ((k : ℕ) → k < i → leb q (symbolAt word k) ≡ false)

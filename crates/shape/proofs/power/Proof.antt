@@ -1,8 +1,8 @@
 -- `shape::power` meets its contract: a shift of 1 by less than the width loses nothing.
 -- Assumes nothing.
-use mathlib.Core.Path.{_∙_}
 use native.Mathlib.Nat.{one-mul}
 use native.Mathlib.Omega.{arith}
+use mathlib.Core.Path.{_∙_}
 use lib.Dec.{lit<}
 use lib.Pow.{shl-exact}
 use borrow.Author.Needs.{needs}

@@ -1,13 +1,11 @@
 -- `shape::takes` meets its contract: in range the limit fits 64 bits and no sum on the way to it wraps.
 -- Assumes nothing.
-use mathlib.Core.Path.{_≡_, sym, _∙_, ap}
-use mathlib.Core.Bool.{true, cond}
-use Prim.Native.Nat.{ℕ, _+_, _*_, _^_}
 use native.Mathlib.Omega.{arith}
-use lib.Dec.{ltb}
+use mathlib.Core.Path.{_≡_, sym, _∙_}
+use mathlib.Core.Bool.{true}
 use borrow.Author.Needs.{needs}
 use borrow.Author.Tests.{not-true, not-false}
-use Rattle.rules.specs.Shape.{inShape, messageBits}
+use Rattle.rules.specs.Shape.{inShape}
 use Rattle.rules.proofs.Range.{InRange, inShape-range, pathBits-le, coefficientBits-le}
 use Rattle.shape.proofs.Powers.{takes-test}
 use Rattle.shape.proofs.takes.Statement.{statement}
