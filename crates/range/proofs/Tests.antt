@@ -1,4 +1,5 @@
--- Laws of allBelow and firstBelow. In order: all, from each place, at each place, one more, refuted; the first, found, not found, and back.
+-- Laws of allBelow and firstBelow. In order: both sides of a conjunction; all, from each place, at each place, one
+-- more, equal tests, refuted; the first, found, not found, and back.
 -- Not here: sums and counts (Sums), lists (Lists).  Assumes nothing.
 use Prim.Native.Nat.{ℕ, zero, suc, _<_, zero-le, suc-le-suc}
 use native.Mathlib.Nat.{not-suc-le-zero, le-of-suc-le-suc}
@@ -48,7 +49,8 @@ pub allBelow-cong : (n : ℕ) (f g : ℕ → Bool) → ((i : ℕ) → i < n → 
 unfolding allBelow
 allBelow-cong zero f g e = refl
 allBelow-cong (suc n) f g e =
-    rw (e zero (suc-le-suc zero-le), allBelow-cong n (λ i. f (suc i)) (λ i. g (suc i)) (λ i h. e (suc i) (suc-le-suc h)))
+    let rest = allBelow-cong n (λ i. f (suc i)) (λ i. g (suc i)) (λ i h. e (suc i) (suc-le-suc h)) in
+    rw (e zero (suc-le-suc zero-le), rest)
 
 is-false : (b : Bool) → (b ≡ true → ⊥) → b ≡ false
 is-false true h = absurd (h refl)
@@ -80,7 +82,8 @@ pub data Found (n : ℕ) (f : ℕ → Bool) : Option ℕ → Type 0 where
   at : (i : ℕ) → i < n → f i ≡ true → ((j : ℕ) → j < i → f j ≡ false) → Found n f (some i)
   nowhere : ((i : ℕ) → i < n → f i ≡ false) → Found n f none
 
-found-step : (n : ℕ) (f : ℕ → Bool) (b : Bool) (o : Option ℕ) → f zero ≡ b → Found n (λ i. f (suc i)) o → Found (suc n) f (zeroOr b o)
+found-step : (n : ℕ) (f : ℕ → Bool) (b : Bool) (o : Option ℕ) → f zero ≡ b → Found n (λ i. f (suc i)) o →
+    Found (suc n) f (zeroOr b o)
 found-step n f true o e r = at zero (suc-le-suc zero-le) e (λ j l. absurd (not-suc-le-zero l))
 found-step n f false none e (nowhere a) = nowhere (λ i. split i)
   where

@@ -40,22 +40,23 @@ outside-m m e = (λ h. refused-one h m (rw (e, and-false (inH h))), λ y n. rw e
 
 soft-right : Right (soft 1 2 fourLeast 1 (pos 65536) (3 ∷ 5 ∷ 6 ∷ []))
 unfolding
-    softRefusal allBelow correlation sumℤ heard wordAt formAt links digit pathAt paths keep without orders upTo listBelow flatMap
-    labelPath coefficient constant labelOf pathBits sumBelow reaching
+    softRefusal allBelow correlation sumℤ heard wordAt formAt links digit pathAt paths keep without orders upTo
+    listBelow flatMap labelPath coefficient constant labelOf pathBits sumBelow reaching
 soft-right = (
   refl,
-  best-of-tests (labels 1 2) leZ (correlation 1 2 fourLeast) 1 3 (lit< tt) (lit< tt) (eqb-false 3 1 refl) refl tt refl refl,
+  best-of-tests (labels 1 2) leZ (correlation 1 2 fourLeast) 1 3
+      (lit< tt) (lit< tt) (eqb-false 3 1 refl) refl tt refl refl,
   refl,
 )
 
 hard-right : Right (hard 1 2 (1 ∷ 1 ∷ 1 ∷ 1 ∷ []) 1 1)
 unfolding
-    hardRefusal badSymbol firstBelow allBelow countBelow hamming distance wordAt formAt links digit pathAt paths keep without orders
-    upTo listBelow flatMap labelPath coefficient constant labelOf pathBits sumBelow
+    hardRefusal badSymbol firstBelow allBelow countBelow hamming distance wordAt formAt links digit pathAt paths keep
+    without orders upTo listBelow flatMap labelPath coefficient constant labelOf pathBits sumBelow
 hard-right = (
   refl,
-  best-of-tests (labels 1 2) (λ a b. leb b a) (λ k. distance 1 4 (symbolAt (1 ∷ 1 ∷ 1 ∷ 1 ∷ [])) (wordAt 1 2 k)) 1 3 (lit< tt)
-      (lit< tt) (eqb-false 3 1 refl) refl tt refl refl,
+  best-of-tests (labels 1 2) (λ a b. leb b a) (λ k. distance 1 4 (symbolAt (1 ∷ 1 ∷ 1 ∷ 1 ∷ [])) (wordAt 1 2 k)) 1 3
+      (lit< tt) (lit< tt) (eqb-false 3 1 refl) refl tt refl refl,
 )
 
 -- zeros of the right length are not refused
@@ -77,9 +78,9 @@ a & b = (a, b)
 
 pub known : AllRight starred
 unfolding
-    _&_ starred wordOf partnerOf wordAt partnerAt formAt links digit pathAt paths keep without orders upTo listBelow flatMap labelPath
-    coefficient constant labelParts labelOf pathBits sumBelow countBelow allBelow firstBelow minus phaseCount pairCount golayPair
-    badSymbol messageWith sendRefusal pairOutcome readOutcome
+    _&_ starred wordOf partnerOf wordAt partnerAt formAt links digit pathAt paths keep without orders upTo listBelow
+    flatMap labelPath coefficient constant labelParts labelOf pathBits sumBelow countBelow allBelow firstBelow minus
+    phaseCount pairCount golayPair badSymbol messageWith sendRefusal pairOutcome readOutcome
 known =
     (refl, refl) & (refl, refl) & refl
     & (refl, refl) & (refl, refl) & (refl, refl)

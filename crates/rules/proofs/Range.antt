@@ -49,7 +49,8 @@ unfolding pathBits
 pathBits-le m = entry-le (m - 2)
 
 pub coefficientBits-le : (h m : ℕ) → InRange h m → h * (m + 1) ≤ greatestH * (greatestM + 1)
-coefficientBits-le h m r = mul-le-mul {n₁ = h} {m₁ = m + 1} {n₂ = greatestH} {m₂ = greatestM + 1} (r .h-most) (omega (arith, r .m-most))
+coefficientBits-le h m r =
+    mul-le-mul {n₁ = h} {m₁ = m + 1} {n₂ = greatestH} {m₂ = greatestM + 1} (r .h-most) (omega (arith, r .m-most))
 
 pub messageBits-le : (h m : ℕ) → InRange h m → messageBits h m ≤ 23
 messageBits-le h m r = omega (arith, pathBits-le m, coefficientBits-le h m r)

@@ -1,7 +1,8 @@
 -- The pair check: 01 "The partner and the pair check".
 -- Words are taken as functions of the place.
 -- Defines:  minus q a b            a - b modulo q, for a and b below q
---           phaseCount h n a u k   how many places i with i + u < n have symbol i minus symbol i + u equal to k modulo 2^h
+--           phaseCount h n a u k   how many places i with i + u < n have symbol i minus symbol i + u equal to k
+--                                  modulo 2^h
 --           pairCount h n a b u k  the same, over both words together
 --           GolayPair h m a b      for each shift u from 1 to N - 1 and each phase k the count for k equals the count
 --                                  for k + 2^(h-1)

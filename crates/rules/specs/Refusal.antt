@@ -47,7 +47,8 @@ unfoldable pub readOutcome : ℕ → ℕ → List ℕ → Outcome ℕ
 readOutcome h m w = refuse 1 (badShape h m) (refuseWord h m w (orNoWord (messageWith h m w)))
 
 unfoldable pub softRefusal : ℕ → ℕ → List ℤ → Outcome (Unit {0})
-softRefusal h m ys = refuse 1 (badShape h m) (refuse 6 (octary h) (refuse 2 (badLength (length ys) (softLength h m)) allowed))
+softRefusal h m ys =
+    refuse 1 (badShape h m) (refuse 6 (octary h) (refuse 2 (badLength (length ys) (softLength h m)) allowed))
 
 unfoldable pub hardRefusal : ℕ → ℕ → List ℕ → Outcome (Unit {0})
 hardRefusal h m w = refuse 1 (badShape h m) (refuse 6 (octary h) (refuseWord h m w allowed))

@@ -1,5 +1,6 @@
 -- The transform: 01 "The transform by itself".
--- Defines:  accepted z            whether z lies in -32,768..32,767, the range of a transform input; it stands here alone
+-- Defines:  accepted z            whether z lies in -32,768..32,767, the range of a transform input; it stands here
+--                                 alone
 --           odd n                 whether n is odd
 --           shared m i j          how many ones the digits of i and j share
 --           spectrumAt m y j      entry j of the spectrum of y

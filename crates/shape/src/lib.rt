@@ -19,7 +19,8 @@ pub const GREATEST_H: u32 = 3;
 
 pub const GREATEST_M: u32 = 5;
 
-// What the greatest m makes of the sizes of arrays: the steps of a path, the rows of the generator, the places of a word.
+// What the greatest m makes of the sizes of arrays: the steps of a path, the rows of the generator, the places of a
+// word.
 pub const STEPS: usize = GREATEST_M as usize;
 
 pub const ROWS: usize = STEPS + 1;

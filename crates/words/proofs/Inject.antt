@@ -76,7 +76,8 @@ module _ (m a b : ℕ) (la : 1 ≤ a) (lb : a < b) (lm : b ≤ m) where
 abbrev linked : ℕ → ℕ → ℕ → ℕ → ℕ
 linked h m l i = links (digit m i) (pathAt m (labelPath h m l))
 
-wordAt-parts : (h m l i : ℕ) → wordAt h m l i ≡ (halfTurn h * linked h m l i + (linear h m l i + constant h l)) % phases h
+wordAt-parts : (h m l i : ℕ) →
+    wordAt h m l i ≡ (halfTurn h * linked h m l i + (linear h m l i + constant h l)) % phases h
 unfolding wordAt formAt
 wordAt-parts h m l i = rw add-assoc
 

@@ -1,5 +1,5 @@
--- What is known of the paths in use, for every m in range: each is a path, its neighbours differ, its links determine it.
--- Not here: the laws of all paths (crate paths).  Assumes nothing.
+-- What is known of the paths in use, for every m in range: each is a path, its neighbours differ, its links determine
+-- it. Not here: the laws of all paths (crate paths).  Assumes nothing.
 use Prim.Native.Nat.{ℕ, _%_, _≤_, _<_}
 use native.Mathlib.Nat.{lt-of-lt-of-le}
 use mathlib.Core.Path.{_≡_}

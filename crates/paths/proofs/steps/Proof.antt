@@ -34,11 +34,11 @@ cast-at c = search needs
 add-at : tie.Need-add-at
 unfolding starts sumBelow listBelow pathBits
 add-at c =
-    let start = c .before .before .before in
+    let m = c .before .before .before .args .m in
     omega (
       arith,
       c .struct-known .given,
-      start-lt (start .args .m) 0 (c .before .before .if1 .left) (c .before .if2 .left) (pow-pos (pathBits (start .args .m))),
+      start-lt m 0 (c .before .before .if1 .left) (c .before .if2 .left) (pow-pos (pathBits m)),
     )
 
 mul-result : tie.Need-mul-result
