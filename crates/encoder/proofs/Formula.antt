@@ -16,13 +16,12 @@ use Rattle.rules.specs.Place.{digit, generatorAt}
 use Rattle.rules.specs.Path.{IsPath, pathAt, headOf}
 use Rattle.rules.specs.Label.{labels, labelPath, labelOf, rowCoefficient}
 use Rattle.rules.specs.Word.{links, wordAt, partnerAt, wordOf, partnerOf}
-use Rattle.rules.proofs.Range.{InRange, range-inM, phases-most, carriers-most}
+use Rattle.rules.proofs.Range.{InRange, range-inM, phases-half, phases-most, carriers-most}
 use Rattle.paths.specs.Steps.{pathRow}
 use Rattle.paths.proofs.Members.{isPath-in}
 use Rattle.words.proofs.Labels.{labelPath-lt, coefficient-lt, constant-lt}
 use Rattle.words.proofs.Forms.{formAt-rows, partnerAt-form}
 use Rattle.words.proofs.Used.{used-isPath}
-use Rattle.words.proofs.Inject.{phases-half}
 use Rattle.encoder.specs.Steps.{generatorRows, cell, linearOf, linksOf, symbolOf, liftedAt, Cells, Small, Walk}
 use Rattle.encoder.proofs.Matrix.{generatorAt-digit, generatorRows-at, generatorRows-cells}
 

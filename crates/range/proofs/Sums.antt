@@ -56,13 +56,13 @@ pub countBelow-cong : (n : ℕ) (f g : ℕ → Bool) → ((i : ℕ) → i < n �
 unfolding countBelow
 countBelow-cong n f g e = sumBelow-cong n (λ i. oneIf (f i)) (λ i. oneIf (g i)) (λ i h. ap oneIf (e i h))
 
-one?-le : (b : Bool) → oneIf b ≤ 1
-one?-le true = le-refl 1
-one?-le false = zero-le
+pub oneIf-le : (b : Bool) → oneIf b ≤ 1
+oneIf-le true = le-refl 1
+oneIf-le false = zero-le
 
 pub countBelow-le : (n : ℕ) (f : ℕ → Bool) → countBelow n f ≤ n
 unfolding countBelow
-countBelow-le n f = omega (arith, sumBelow-le n 1 (λ i. oneIf (f i)) (λ i _. one?-le (f i)))
+countBelow-le n f = omega (arith, sumBelow-le n 1 (λ i. oneIf (f i)) (λ i _. oneIf-le (f i)))
 
 -- one turn of a loop that adds up
 pub sumBelow-turn : (i s v : ℕ) (f : ℕ → ℕ) → s ≡ sumBelow i f → v ≡ f i → s + v ≡ sumBelow (i + 1) f

@@ -1,5 +1,5 @@
--- Laws of allBelow and firstBelow. In order: both sides of a conjunction; all, from each place, at each place, one
--- more, equal tests, refuted; the first, found, not found, and back.
+-- Laws of allBelow and firstBelow. In order: both sides of a conjunction, a test not passed; all, from each place,
+-- at each place, one more, equal tests, refuted; the first, found, not found, and back.
 -- Not here: sums and counts (Sums), lists (Lists).  Assumes nothing.
 use Prim.Native.Nat.{ℕ, zero, suc, _<_, zero-le, suc-le-suc}
 use native.Mathlib.Nat.{not-suc-le-zero, le-of-suc-le-suc}
@@ -19,6 +19,11 @@ and-right false b e = absurd (false≢true e)
 
 pub and-of : (a b : Bool) → a ≡ true → b ≡ true → (a && b) ≡ true
 and-of a b p q = rw (p, q)
+
+-- a test that is not passed fails
+pub false-of-not-true : (b : Bool) → (b ≡ true → ⊥) → b ≡ false
+false-of-not-true true h = absurd (h refl)
+false-of-not-true false h = refl
 
 pub allBelow-of : (n : ℕ) (f : ℕ → Bool) → ((i : ℕ) → i < n → f i ≡ true) → allBelow n f ≡ true
 unfolding allBelow
@@ -52,12 +57,8 @@ allBelow-cong (suc n) f g e =
     let rest = allBelow-cong n (λ i. f (suc i)) (λ i. g (suc i)) (λ i h. e (suc i) (suc-le-suc h)) in
     rw (e zero (suc-le-suc zero-le), rest)
 
-is-false : (b : Bool) → (b ≡ true → ⊥) → b ≡ false
-is-false true h = absurd (h refl)
-is-false false h = refl
-
 pub allBelow-not : (n : ℕ) (f : ℕ → Bool) (i : ℕ) → i < n → f i ≡ false → allBelow n f ≡ false
-allBelow-not n f i h e = is-false (allBelow n f) (λ a. false≢true (sym e ∙ allBelow-at n f a i h))
+allBelow-not n f i h e = false-of-not-true (allBelow n f) (λ a. false≢true (sym e ∙ allBelow-at n f a i h))
 
 -- the first that passes: it does, and none before it
 pub firstBelow-some : (n : ℕ) (f : ℕ → Bool) (i : ℕ) → i < n → f i ≡ true → ((j : ℕ) → j < i → f j ≡ false) →

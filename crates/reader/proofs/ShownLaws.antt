@@ -5,7 +5,7 @@ use native.Mathlib.Nat.{mod-lt, zero-mul, add-mul, one-mul, lt-irrefl, pow-zero,
 use native.Mathlib.Nat.{lt-of-lt-of-le, mul-le-mul-left}
 use native.Mathlib.Omega.{arith}
 use mathlib.Core.Path.{_≡_, refl, sym, _∙_, ap, ap₂, subst}
-use mathlib.Core.Bool.{Bool, true, false}
+use mathlib.Core.Bool.{Bool, true}
 use mathlib.Core.List.{List}
 use mathlib.Core.Option.{none, some}
 use lib.Dec.{eqb}
@@ -15,7 +15,7 @@ use lib.Pow.{pow-pos, pow-mono}
 use lib.Seq.{ext-getD}
 use borrow.Author.Tests.{eq-eqb, eqb-true}
 use Rattle.range.specs.Below.{allBelow}
-use Rattle.range.proofs.Tests.{allBelow-of, allBelow-at, firstBelow-some, firstBelow-none}
+use Rattle.range.proofs.Tests.{false-of-not-true, allBelow-of, allBelow-at, firstBelow-some, firstBelow-none}
 use Rattle.rules.specs.Shape.{phases, carriers, pathsInUse, messageBits}
 use Rattle.rules.specs.Label.{labels, labelPath, coefficient, constant, labelOf, messageOf}
 use Rattle.rules.specs.Word.{wordAt, wordOf}
@@ -126,15 +126,11 @@ module _ (h m : ℕ) (w : List ℕ) (word : Word h m w) where
       let b′ : i < carriers m = subst (λ (n : ℕ). i < n) (length-wordOf h m g) b in
       wordOf-at h m g i b′ ∙ eqb-true _ _ (allBelow-at (carriers m) _ e i b′))
 
-  not-true : (b : Bool) → (b ≡ true → ⊥) → b ≡ false
-  not-true true f = absurd (f refl)
-  not-true false f = refl
-
   pub messageWith-some : (g : ℕ) → g < 2 ^ messageBits h m → wordOf h m g ≡ w → messageWith h m w ≡ some g
   unfolding messageWith
   messageWith-some g taken e =
       firstBelow-some (2 ^ messageBits h m) hasWord g taken (hasWord-of g e)
-      (λ j b. not-true (hasWord j) (λ t. before j b (wordOf-inj m (range-inM h m range) h j g (range .h-least)
+      (λ j b. false-of-not-true (hasWord j) (λ t. before j b (wordOf-inj m (range-inM h m range) h j g (range .h-least)
       (lt-trans b taken) taken (hasWord-is j t ∙ sym e))))
     where
       before : (j : ℕ) → j < g → j ≡ g → ⊥
@@ -145,6 +141,6 @@ module _ (h m : ℕ) (w : List ℕ) (word : Word h m w) where
   unfolding messageWith
   messageWith-none tried =
       firstBelow-none (2 ^ messageBits h m) hasWord
-      (λ g taken. not-true (hasWord g) (λ t. let e : wordOf h m g ≡ w = hasWord-is g t in
+      (λ g taken. false-of-not-true (hasWord g) (λ t. let e : wordOf h m g ≡ w = hasWord-is g t in
       tried (labelPath h m (labelOf h m g)) (path-used g taken e)
       (ap (wordOf h m) (shows-message g taken e) ∙ e)))

@@ -1,10 +1,10 @@
 -- Bounds that a shape in range gives.
 -- In order: the ranges of h and m; w; the bits of a message number; the phases, the carriers, the paths in use.
 -- Assumes nothing.
-use Prim.Native.Nat.{ℕ, zero, suc, _+_, _-_, _*_, _≤_}
-use native.Mathlib.Nat.{mul-le-mul}
+use Prim.Native.Nat.{ℕ, zero, suc, _+_, _-_, _*_, _^_, _≤_}
+use native.Mathlib.Nat.{mul-le-mul, pow-succ'}
 use native.Mathlib.Omega.{arith}
-use mathlib.Core.Path.{_≡_, sym, subst}
+use mathlib.Core.Path.{_≡_, sym, _∙_, ap, subst}
 use mathlib.Core.Bool.{true}
 use mathlib.Core.List.{[], _∷_}
 use lib.Dec.{T, leb, lit≤}
@@ -13,7 +13,7 @@ use lib.Pow.{pow-mono}
 use borrow.Author.Tests.{leb-true, le-leb}
 use Rattle.range.proofs.Tests.{and-left, and-right, and-of}
 use Rattle.rules.specs.Shape.{greatestH, greatestM, pathBits, inH, inM, inShape, phases, carriers, pathsInUse}
-use Rattle.rules.specs.Shape.{messageBits}
+use Rattle.rules.specs.Shape.{messageBits, halfTurn}
 
 pub record InRange (h m : ℕ) : Type 0 where
   pub h-least : 1 ≤ h
@@ -54,6 +54,12 @@ coefficientBits-le h m r =
 
 pub messageBits-le : (h m : ℕ) → InRange h m → messageBits h m ≤ 23
 messageBits-le h m r = omega (arith, pathBits-le m, coefficientBits-le h m r)
+
+-- 2^h is twice 2^(h-1)
+pub phases-half : (h : ℕ) → 1 ≤ h → phases h ≡ 2 * halfTurn h
+phases-half h b =
+    let e : h ≡ suc (h - 1) = omega arith in
+    ap (λ (n : ℕ). 2 ^ n) e ∙ pow-succ' 2 (h - 1)
 
 pub phases-least : (h m : ℕ) → InRange h m → 2 ≤ phases h
 phases-least h m r = pow-mono {i = 1} {j = h} (r .h-least)

@@ -4,7 +4,7 @@
 -- Not here: what a word shows at single places (Readings), what is known of the paths in use (Used).  Assumes nothing.
 use Prim.Native.Nat.{ℕ, suc, _+_, _-_, _*_, _/_, _%_, _^_, _≤_, _<_, zero-le, suc-le-suc}
 use native.Mathlib.Nat.{add-assoc, mod-add-mod, add-mul-mod-self-right, div-add-mod', suc-mul, mod-lt, mul-div-cancel}
-use native.Mathlib.Nat.{mul-mod-left, mul-comm, pow-succ', eq-of-mul-eq-mul-right, add-zero}
+use native.Mathlib.Nat.{mul-mod-left, mul-comm, eq-of-mul-eq-mul-right, add-zero}
 use native.Mathlib.Omega.{arith}
 use mathlib.Core.Path.{_≡_, refl, sym, _∙_, ap, ap₂}
 use mathlib.Core.Bool.{Bool, true, false, _||_}
@@ -22,6 +22,7 @@ use Rattle.rules.specs.Path.{pathAt}
 use Rattle.rules.specs.Label.{labels, labelPath, coefficient, constant, labelOf, messageOf}
 use Rattle.rules.specs.Word.{links, formAt, wordAt, wordOf}
 use Rattle.rules.specs.Pair.{minus}
+use Rattle.rules.proofs.Range.{phases-half}
 use Rattle.paths.proofs.Pairs.{onPair}
 use Rattle.words.proofs.Digits.{one-lt, twoAt, digit-two-lt, digit-two-first, digit-two-second, digit-two-off}
 use Rattle.words.proofs.Labels.{label-inj, labelPath-lt, messageOf-labelOf, labelOf-lt}
@@ -45,11 +46,6 @@ mod-cancel q x y s p e = complete q x s p ∙ rw e (sym (complete q y s p))
 double-mod : (c x : ℕ) → 0 < c → c * x % (2 * c) ≡ x % 2 * c
 double-mod c x p =
     rw (mul-comm c x) (mod-mul (x * c) (omega arith) p ∙ rw (mul-div-cancel x p, mul-mod-left) (add-zero _))
-
-pub phases-half : (h : ℕ) → 1 ≤ h → phases h ≡ 2 * halfTurn h
-phases-half h b =
-    let e : h ≡ suc (h - 1) = omega arith in
-    ap (λ (n : ℕ). 2 ^ n) e ∙ pow-succ' 2 (h - 1)
 
 half-mod : (h x : ℕ) → 1 ≤ h → halfTurn h * x % phases h ≡ x % 2 * halfTurn h
 half-mod h x b = rw (phases-half h b) (double-mod (halfTurn h) x (pow-pos (h - 1)))

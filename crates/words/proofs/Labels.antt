@@ -17,9 +17,6 @@ pub phases-pow : (h j : ℕ) → phases h ^ j ≡ 2 ^ (h * j)
 phases-pow h zero = rw (pow-zero, mul-zero)
 phases-pow h (suc j) = rw (pow-suc, mul-suc, phases-pow h j) (sym (pow-add 2 (h * j) h))
 
-pub phases-pos : (h : ℕ) → 0 < phases h
-phases-pos h = pow-pos h
-
 pub coefficient-lt : (h m l k : ℕ) → coefficient h m l k < phases h
 unfolding coefficient
 coefficient-lt h m l k = mod-lt (l / phases h ^ (m + 1 - k)) (pow-pos h)

@@ -119,13 +119,5 @@ returns c =
 pub fill-spec : {M : Type 1} → statement M
 fill-spec =
     tie.close
-    (tie.spec
-    power-requires
-    cast-q
-    split-requires
-    generator-requires
-    steps-requires
-    mul-combine
-    combine-requires
-    same-length
-    returns)
+    (tie.spec power-requires cast-q split-requires generator-requires steps-requires mul-combine combine-requires
+    same-length returns)

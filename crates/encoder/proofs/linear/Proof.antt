@@ -89,17 +89,5 @@ returns c =
 pub linear-spec : {M : Type 1} → statement M
 linear-spec =
     tie.close
-    (tie.spec
-    Inv-loop
-    μ-loop
-    add-n
-    loop-holds
-    mul-sum
-    array-read-sum
-    at-requires
-    mul-sum-2
-    add-sum
-    add-r
-    loop-less
-    loop-again
-    returns)
+    (tie.spec Inv-loop μ-loop add-n loop-holds mul-sum array-read-sum at-requires mul-sum-2 add-sum add-r loop-less
+    loop-again returns)

@@ -125,21 +125,5 @@ returns c =
 pub links-spec : {M : Type 1} → statement M
 links-spec =
     tie.close
-    (tie.spec
-    Inv-loop
-    μ-loop
-    sub-n
-    loop-holds
-    array-read-index
-    index-requires
-    at-requires
-    add-index
-    array-read-index-2
-    index-requires-2
-    at-requires-2
-    mul-sum
-    add-sum
-    add-k
-    loop-less
-    loop-again
-    returns)
+    (tie.spec Inv-loop μ-loop sub-n loop-holds array-read-index index-requires at-requires add-index
+    array-read-index-2 index-requires-2 at-requires-2 mul-sum add-sum add-k loop-less loop-again returns)

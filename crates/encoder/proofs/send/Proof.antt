@@ -107,14 +107,5 @@ returns-4 c =
 pub send-spec : {M : Type 1} → statement M
 send-spec =
     tie.close
-    (tie.spec
-    in-shape-requires
-    returns
-    power-requires
-    returns-2
-    takes-requires
-    returns-3
-    label-of-requires
-    fill-requires
-    same-length
-    returns-4)
+    (tie.spec in-shape-requires returns power-requires returns-2 takes-requires returns-3 label-of-requires
+    fill-requires same-length returns-4)

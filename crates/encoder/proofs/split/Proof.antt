@@ -97,22 +97,5 @@ returns c = record { path = path-is c; rows = taken-rows _ _ _ _ _ _ (c .before 
 pub split-spec : {M : Type 1} → statement M
 split-spec =
     tie.close
-    (tie.spec
-    Inv-loop
-    μ-loop
-    power-requires
-    rem-c
-    cast-c
-    array-write-c
-    div-rest
-    loop-holds
-    rem-c-2
-    cast-c-2
-    mul-c
-    array-write-c-2
-    div-rest-2
-    sub-r
-    loop-less
-    loop-again
-    cast-t10
-    returns)
+    (tie.spec Inv-loop μ-loop power-requires rem-c cast-c array-write-c div-rest loop-holds rem-c-2 cast-c-2 mul-c
+    array-write-c-2 div-rest-2 sub-r loop-less loop-again cast-t10 returns)

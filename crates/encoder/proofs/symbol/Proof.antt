@@ -101,16 +101,5 @@ returns c = rw (c .before .before .before .links .ensures, c .before .before .li
 pub symbol-spec : {M : Type 1} → statement M
 symbol-spec =
     tie.close
-    (tie.spec
-    links-requires
-    linear-requires
-    array-read-index
-    index-requires
-    at-requires
-    mul-result
-    add-result
-    mul-result-2
-    add-result-2
-    rem-result
-    cast-result
-    returns)
+    (tie.spec links-requires linear-requires array-read-index index-requires at-requires mul-result add-result
+    mul-result-2 add-result-2 rem-result cast-result returns)

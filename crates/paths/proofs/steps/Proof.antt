@@ -58,15 +58,5 @@ returns-4 c least most used = absurd (not-le-of-lt (start-lt _ _ least most used
 pub steps-spec : {M : Type 1} → statement M
 steps-spec =
     tie.close
-    (tie.spec
-    returns
-    returns-2
-    sub-first
-    mul-first
-    array-read-first
-    cast-at
-    add-at
-    mul-result
-    array-copy-out-result
-    returns-3
-    returns-4)
+    (tie.spec returns returns-2 sub-first mul-first array-read-first cast-at add-at mul-result array-copy-out-result
+    returns-3 returns-4)

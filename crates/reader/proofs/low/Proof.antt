@@ -160,23 +160,6 @@ returns c =
 pub low-spec : {M : Type 1} → statement M
 low-spec =
     tie.close
-    (tie.spec
-    Inv-loop
-    μ-loop
-    power-requires
-    loop-holds
-    add-k
-    sub-power
-    power-requires-2
-    mul-number
-    shared-slice-read-minus
-    shared-slice-read-minus-2
-    minus-requires
-    add-number
-    loop-less
-    loop-again
-    mul-result
-    shared-slice-read-wide
-    wide-requires
-    add-result
-    returns)
+    (tie.spec Inv-loop μ-loop power-requires loop-holds add-k sub-power power-requires-2 mul-number
+    shared-slice-read-minus shared-slice-read-minus-2 minus-requires add-number loop-less loop-again mul-result
+    shared-slice-read-wide wide-requires add-result returns)

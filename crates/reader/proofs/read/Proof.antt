@@ -97,15 +97,5 @@ returns-4 c =
 pub read-spec : {M : Type 1} → statement M
 read-spec =
     tie.close
-    (tie.spec
-    in-shape-requires
-    returns
-    power-requires
-    returns-2
-    power-requires-2
-    first-bad-requires
-    enum-known-place
-    returns-3
-    enum-told
-    search-requires
-    returns-4)
+    (tie.spec in-shape-requires returns power-requires returns-2 power-requires-2 first-bad-requires enum-known-place
+    returns-3 enum-told search-requires returns-4)

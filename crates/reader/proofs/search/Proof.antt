@@ -147,21 +147,5 @@ returns-2 c =
 pub search-spec : {M : Type 1} → statement M
 search-spec =
     tie.close
-    (tie.spec
-    Inv-loop
-    μ-loop
-    add-power
-    mul-power
-    power-requires
-    path-bits-requires
-    power-requires-2
-    low-requires
-    loop-holds
-    message-of-requires
-    is-word-requires
-    returns
-    add-label
-    add-n
-    loop-less
-    loop-again
-    returns-2)
+    (tie.spec Inv-loop μ-loop add-power mul-power power-requires path-bits-requires power-requires-2 low-requires
+    loop-holds message-of-requires is-word-requires returns add-label add-n loop-less loop-again returns-2)

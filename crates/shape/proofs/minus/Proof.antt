@@ -35,12 +35,4 @@ returns-4 c _ _ _ =
 pub minus-spec : {M : Type 1} → statement M
 minus-spec =
     tie.close
-    (tie.spec
-    wide-requires
-    wide-requires-2
-    returns
-    returns-2
-    returns-3
-    add-result
-    rem-result
-    returns-4)
+    (tie.spec wide-requires wide-requires-2 returns returns-2 returns-3 add-result rem-result returns-4)
