@@ -50,7 +50,8 @@ pub fn partner(h: u32, m: u32, message: MessageNumber, out: &mut [u8]) -> Writte
 // The word for lift 0 and the partner for lift 1.
 fn send(h: u32, m: u32, message: MessageNumber, lift: u32, out: &mut [u8]) -> Written
     requires { ⌜ lift ≤ 1 ⌝ }
-    ensures { λ r. ⌜ Sent h m (message .0) (listBelow (carriers m) (liftedAt h m (labelOf h m (message .0)) (lift * halfTurn h)))
+    ensures { λ r. ⌜ Sent h m (message .0)
+        (listBelow (carriers m) (liftedAt h m (labelOf h m (message .0)) (lift * halfTurn h)))
         (now (out .entry)) r (now (out .exit)) ⌝ }
 {
     if !shape::in_shape(h, m) {
@@ -97,7 +98,8 @@ fn combine(
     requires { ⌜ Cells m g ⌝ }
     requires { ⌜ Small m c ⌝ }
     requires { ⌜ Walk m p ⌝ }
-    requires { ⌜ (2 ≤ q) × (q ≤ phases greatestH) × (s ≤ halfTurn greatestH) × (length (now out) ≤ carriers greatestM) ⌝ }
+    requires { ⌜ (2 ≤ q) × (q ≤ phases greatestH) × (s ≤ halfTurn greatestH)
+        × (length (now out) ≤ carriers greatestM) ⌝ }
     ensures { λ _. ⌜ now (out .exit) ≡ listBelow (length (now (out .entry))) (symbolOf g p c m q s) ⌝ }
 {
     let mut i = 0;

@@ -33,7 +33,7 @@ labelPath-lt h m l b = rw phases-pow (shr-lt (pathBits m) (h * (m + 1)) b)
 over-suc : (q l n : ℕ) → l / q ^ suc n ≡ l / q / q ^ n
 over-suc q l n = rw (pow-succ', div-div-eq-div-mul)
 
-over-one : (q l : ℕ) → l / q ^ 1 ≡ l / q
+pub over-one : (q l : ℕ) → l / q ^ 1 ≡ l / q
 over-one q l = rw (over-suc q l 0, pow-zero) (div-one (l / q))
 
 pub labelPath-zero : (h l : ℕ) → labelPath h 0 l ≡ l / phases h
