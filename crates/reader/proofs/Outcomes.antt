@@ -1,5 +1,6 @@
 -- What word reading is to answer on each way out, and that only one answer keeps the promise.
--- In order: the shape, the length, a symbol refused; what is left to the search; the answer is unique.  Assumes nothing.
+-- In order: the shape, the length, a symbol refused; what is left to the search; the answer is unique.
+-- Assumes nothing.
 use Prim.Native.Nat.{ℕ}
 use mathlib.Core.Path.{_≡_, sym, _∙_, ap}
 use mathlib.Core.Bool.{true, false}

@@ -1,8 +1,10 @@
--- What the symbols show of a label. In order: as the number of the label's parts; its bounds; the next path; a word shows
--- its own label; the test of a message; the message that has a word, and where no message has it.  Assumes nothing.
+-- What the symbols show of a label. In order: a coefficient's bound; what is shown as the number of the label's parts;
+-- one coefficient more; its bounds; the next path; a word shows its own label; the test of a message; the message
+-- that has a word, and where no message has it.  Assumes nothing.
 use Prim.Native.Nat.{ℕ, zero, suc, _+_, _-_, _*_, _^_, _≤_, _<_}
 use native.Mathlib.Nat.{mod-lt, zero-mul, add-mul, one-mul, lt-irrefl, pow-zero, pow-suc, le-refl, lt-trans}
 use native.Mathlib.Nat.{lt-of-lt-of-le, mul-le-mul-left}
+use native.Mathlib.Numerals.{add-one}
 use native.Mathlib.Omega.{arith}
 use mathlib.Core.Path.{_≡_, refl, sym, _∙_, ap, ap₂, subst}
 use mathlib.Core.Bool.{Bool, true}
@@ -41,6 +43,12 @@ shownUpTo-is : (h m : ℕ) (w : List ℕ) (k c0 : ℕ) → shownUpTo h m w k * p
 unfolding shownUpTo numberOf
 shownUpTo-is h m w zero c0 = refl
 shownUpTo-is h m w (suc k) c0 = ap (λ (x : ℕ). x * phases h + c0) (shownUpTo-is h m w k (shown h m w (suc k)))
+
+-- one coefficient more
+pub shownUpTo-next : (h m : ℕ) (w : List ℕ) (k : ℕ) →
+    shownUpTo h m w k * phases h + shown h m w (k + 1) ≡ shownUpTo h m w (k + 1)
+unfolding shownUpTo
+shownUpTo-next h m w k = rw (add-one k)
 
 shownUpTo-lt : (h m : ℕ) (w : List ℕ) (k : ℕ) → shownUpTo h m w k < phases h ^ k
 unfolding shownUpTo
@@ -104,7 +112,8 @@ module _ (h m : ℕ) (w : List ℕ) (word : Word h m w) where
     shows-label : labelWith h m w (labelPath h m l) ≡ l
     shows-label =
         labelWith-is h m w (labelPath h m l)
-        ∙ numberOf-cong h m (labelPath h m l) (shown h m w) (coefficient h m l) (symbolAt w 0) (constant h l) shown-is constant-is
+        ∙ numberOf-cong h m (labelPath h m l) (shown h m w) (coefficient h m l) (symbolAt w 0) (constant h l) shown-is
+        constant-is
         ∙ numberOf-back h m l
 
     pub shows-message : messageOf h m (labelWith h m w (labelPath h m l)) ≡ g

@@ -1,4 +1,5 @@
--- What the symbols show of a label, if they are its word: c stands at place 0, and c_k is what place 2^(m-k) adds to it.
+-- What the symbols show of a label, if they are its word: c stands at place 0, and c_k is what place 2^(m-k) adds to
+-- it.
 -- Defines:  Word h m w          the symbols w are N symbols in range, of a shape in range
 --           shown h m w k       the coefficient c_k that w shows
 --           shownUpTo h m w k   c_1, .., c_k as one number in base 2^h

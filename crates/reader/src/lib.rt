@@ -21,8 +21,8 @@ pub enum Reading {
     Refused(Refusal),
 }
 
-// The message whose word the symbols are exactly. Refuses 1 a shape out of range, 2 a word that is not N long, 3 a symbol
-// that is 2^h or more, with the first such place, 5 symbols that are no message's word. The word is only read.
+// The message whose word the symbols are exactly. Refuses 1 a shape out of range, 2 a word that is not N long, 3 a
+// symbol that is 2^h or more, with the first such place, 5 symbols that are no message's word. The word is only read.
 pub fn read(h: u32, m: u32, word: &[u8]) -> Reading
     ensures { λ r. ⌜ readingTold r ≡ readOutcome h m (now (word .entry)) ⌝ }
 {
