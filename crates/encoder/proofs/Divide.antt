@@ -1,6 +1,6 @@
 -- A label number taken apart by dividing, lowest coefficient first.
 -- Defines:  Taken h m l q r rest c    c and the coefficients above r are taken; rest is what stands above them
--- In order: before the first division but one; a division; after the last.  Assumes nothing.
+-- In order: after the first division; after one more; after the last.  Assumes nothing.
 use Prim.Native.Nat.{ℕ, zero, suc, _+_, _-_, _/_, _%_, _^_, _≤_, _<_}
 use native.Mathlib.Nat.{pow-suc, div-div-eq-div-mul, eq-or-lt-of-le, not-le-of-lt}
 use native.Mathlib.Omega.{arith}

@@ -1,6 +1,6 @@
 -- An answer can be read back from what it tells, so what it tells determines it.
--- In order: reading back the refusal, and what stands behind; the laws; refusals that tell the same are equal;
--- what is given is not refused.  Assumes nothing.
+-- In order: reading back the refusal, and what stands behind; the laws; refusals that tell the same are equal, and
+-- searches; what is given is not refused.  Assumes nothing.
 use Prim.Native.Nat.{ℕ, _-_}
 use native.Mathlib.Omega.{arith}
 use mathlib.Core.Path.{_≡_, refl, sym, _∙_, ap}

@@ -4,7 +4,7 @@
 use Prim.Native.Nat.{ℕ, zero, suc, _<_, zero-le, suc-le-suc}
 use native.Mathlib.Nat.{not-suc-le-zero, le-of-suc-le-suc}
 use mathlib.Core.Path.{_≡_, refl, sym, _∙_, ap}
-use mathlib.Core.Bool.{Bool, true, false, _&&_, false≢true, and-true}
+use mathlib.Core.Bool.{Bool, true, false, _&&_, false≢true, and-true, and-assoc}
 use mathlib.Core.Option.{Option, none, some}
 use Rattle.range.specs.Below.{allBelow, firstBelow, zeroOr}
 
@@ -39,16 +39,12 @@ allBelow-at (suc n) f e zero h = and-left (f zero) (allBelow n (λ k. f (suc k))
 allBelow-at (suc n) f e (suc i) h =
     allBelow-at n (λ k. f (suc k)) (and-right (f zero) (allBelow n (λ k. f (suc k))) e) i (le-of-suc-le-suc h)
 
-and-assoc′ : (a b c : Bool) → (a && (b && c)) ≡ ((a && b) && c)
-and-assoc′ true b c = refl
-and-assoc′ false b c = refl
-
 pub allBelow-suc : (n : ℕ) (f : ℕ → Bool) → allBelow (suc n) f ≡ (allBelow n f && f n)
 unfolding allBelow
 allBelow-suc zero f = and-true (f zero)
 allBelow-suc (suc n) f =
     ap (λ (b : Bool). f zero && b) (allBelow-suc n (λ i. f (suc i)))
-    ∙ and-assoc′ (f zero) (allBelow n (λ i. f (suc i))) (f (suc n))
+    ∙ sym (and-assoc (f zero) (allBelow n (λ i. f (suc i))) (f (suc n)))
 
 pub allBelow-cong : (n : ℕ) (f g : ℕ → Bool) → ((i : ℕ) → i < n → f i ≡ g i) → allBelow n f ≡ allBelow n g
 unfolding allBelow

@@ -1,5 +1,5 @@
 -- Every starred case of 01 is right: the one claim about the list of specs/Known.antt, by computation.
--- In order: a shape outside its range; the soft case; the hard case; the claim.  Assumes nothing.
+-- In order: a shape outside its range; the soft case; the hard case; silence; the claim.  Assumes nothing.
 use Prim.Native.Nat.{ℕ, _≤_}
 use native.Mathlib.Omega.{arith}
 use mathlib.Core.Path.{_≡_, refl}

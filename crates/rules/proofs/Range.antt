@@ -1,5 +1,6 @@
 -- Bounds that a shape in range gives.
--- In order: the ranges of h and m; w; the bits of a message number; the phases, the carriers, the paths in use.
+-- In order: the ranges of h and m; w; the bits of a message number; the phases and half of them, the carriers, the
+-- paths in use.
 -- Assumes nothing.
 use Prim.Native.Nat.{ℕ, zero, suc, _+_, _-_, _*_, _^_, _≤_}
 use native.Mathlib.Nat.{mul-le-mul, pow-succ'}

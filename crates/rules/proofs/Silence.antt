@@ -1,5 +1,6 @@
 -- Soft values that are all zero: every correlation is zero, for two and four phases and every m.
--- In order: a zero value is heard as zero; zeros sum to zero; the correlation; the best of equals.  Assumes nothing.
+-- In order: a zero value is heard as zero; zeros sum to zero; the correlation; two labels at least; the best of equals.
+-- Assumes nothing.
 use Prim.Native.Nat.{ℕ, zero, suc, _+_, _*_, _<_, _≤_}
 use native.Mathlib.Nat.{pow-le-pow-right, lt-of-lt-of-le, le-refl, mul-le-mul}
 use native.Mathlib.Omega.{arith}

@@ -1,6 +1,6 @@
 -- What `power` and `takes` give for a shape in range.
--- In order: a power below 64 bits, the phases, the carriers; a test and its negation; the limit of a message number.
--- Assumes nothing.
+-- In order: a power below 64 bits, the phases, the carriers; a test and its negation; the limit of a message number;
+-- what `takes` says of one.  Assumes nothing.
 use Prim.Native.Nat.{ℕ, _^_, _<_}
 use native.Mathlib.Omega.{arith}
 use mathlib.Core.Path.{_≡_, refl, sym, _∙_, ap}

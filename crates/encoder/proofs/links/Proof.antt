@@ -30,11 +30,11 @@ linkAt c k = digitAt c k * digitAt c (k + 1)
 abbrev start : tie.In-loop Inv-loop μ-loop → tie.Start Inv-loop μ-loop
 start c = c .before .before
 
-abbrev turn : tie.After-at Inv-loop μ-loop → tie.In-loop Inv-loop μ-loop
-turn c = c .before .before
+abbrev turn-first : tie.After-at Inv-loop μ-loop → tie.In-loop Inv-loop μ-loop
+turn-first c = c .before .before
 
-abbrev turn2 : tie.After-at2 Inv-loop μ-loop → tie.In-loop Inv-loop μ-loop
-turn2 c = turn (c .before .before)
+abbrev turn : tie.After-at2 Inv-loop μ-loop → tie.In-loop Inv-loop μ-loop
+turn c = turn-first (c .before .before)
 
 -- a step names a row of the generator
 step-le : (c : tie.In-loop Inv-loop μ-loop) (k : ℕ) → k < start c .args .m → getD (start c .args .t2) k 0 ≤ 5
@@ -63,22 +63,22 @@ add-index : tie.Need-add-index Inv-loop μ-loop
 add-index c = search needs
 
 array-read-index-2 : tie.Need-array-read-index-2 Inv-loop μ-loop
-array-read-index-2 c = omega (arith, start (turn c) .pre .0 .most, turn c .loop-test .taken)
+array-read-index-2 c = omega (arith, start (turn-first c) .pre .0 .most, turn-first c .loop-test .taken)
 
 index-requires-2 : tie.Need-index-requires-2 Inv-loop μ-loop
 index-requires-2 c κs = search needs
 
 at-requires-2 : tie.Need-at-requires-2 Inv-loop μ-loop
 at-requires-2 c κs =
-    let t = turn (c .before) in
+    let t = turn-first (c .before) in
     let small = step-le t (t .before .loop .k + 1) (omega (arith, t .loop-test .taken)) in
     (omega (arith, small, c .index2 .ensures), start t .pre .1 .1)
 
 -- what is added is the link from step k to the next, and that is small
 link : (c : tie.After-at2 Inv-loop μ-loop) →
-    c .before .before .at .result * c .at2 .result ≡ linkAt (start (turn2 c)) (turn2 c .before .loop .k)
+    c .before .before .at .result * c .at2 .result ≡ linkAt (start (turn c)) (turn c .before .loop .k)
 link c =
-    let args = start (turn2 c) .args in
+    let args = start (turn c) .args in
     let first = c .before .before in
     ap₂ (λ (x y : ℕ). x * y)
     (first .at .ensures ∙ ap (λ (r : ℕ). cell (args .g) r (args .i)) (first .before .index .ensures))
@@ -86,18 +86,18 @@ link c =
 
 small : (c : tie.After-at2 Inv-loop μ-loop) → c .before .before .at .result * c .at2 .result ≤ 1
 small c =
-    let s = start (turn2 c) in
+    let s = start (turn c) in
     omega (
       arith,
       link c,
       link-le (s .args .m) (s .args .g) (s .pre .0) (s .args .i) (s .pre .1 .1) (s .args .t2) (s .pre .1 .0)
-          (turn2 c .before .loop .k) (turn2 c .loop-test .taken),
+          (turn c .before .loop .k) (turn c .loop-test .taken),
     )
 
-sofar : (c : tie.After-at2 Inv-loop μ-loop) → turn2 c .before .loop .sum ≤ 4
+sofar : (c : tie.After-at2 Inv-loop μ-loop) → turn c .before .loop .sum ≤ 4
 sofar c =
-    let s = start (turn2 c) in
-    let at-loop = turn2 c .before .loop in
+    let s = start (turn c) in
+    let at-loop = turn c .before .loop in
     omega (
       arith,
       at-loop .inv .0,
@@ -121,8 +121,8 @@ loop-less c = search needs
 
 loop-again : tie.Need-loop-again Inv-loop μ-loop
 loop-again c =
-    let at-loop = turn2 c .before .loop in (
-      omega (arith, turn2 c .loop-test .taken),
+    let at-loop = turn c .before .loop in (
+      omega (arith, turn c .loop-test .taken),
       sumBelow-turn (at-loop .k) (at-loop .sum) _ _ (at-loop .inv .1) (link c),
     )
 
