@@ -1,13 +1,12 @@
 -- What the encoder combines at a place is the formula of 01: generator rows, path steps and coefficients, modulo 2^h.
--- In order: links as a sum; the first of a list, half the phases; each part of the symbol; the symbol; what the arrays
--- hold; the two lifts.  Assumes nothing.
-use Prim.Native.Nat.{ℕ, zero, suc, _+_, _-_, _*_, _/_, _%_, _≤_, _<_}
-use native.Mathlib.Nat.{lt-of-lt-of-le, suc-ne-zero, suc-inj, mul-div-right, one-mul}
+-- In order: links as a sum; the first of a list; each part of the symbol; the symbol; what the arrays hold; the two
+-- lifts.  Assumes nothing.
+use Prim.Native.Nat.{ℕ, zero, suc, _+_, _-_, _*_, _%_, _≤_, _<_}
+use native.Mathlib.Nat.{lt-of-lt-of-le, suc-ne-zero, suc-inj, one-mul}
 use native.Mathlib.Numerals.{add-one}
 use native.Mathlib.Omega.{arith}
 use mathlib.Core.Path.{_≡_, refl, sym, _∙_, ap, ap₂, subst}
 use mathlib.Core.List.{List, [], _∷_}
-use lib.Dec.{lit<}
 use lib.ListN.{length, getD}
 use Rattle.range.specs.Below.{sumBelow, listBelow}
 use Rattle.range.proofs.Sums.{sumBelow-cong}
@@ -17,7 +16,7 @@ use Rattle.rules.specs.Place.{digit, generatorAt}
 use Rattle.rules.specs.Path.{IsPath, pathAt, headOf}
 use Rattle.rules.specs.Label.{labels, labelPath, labelOf, rowCoefficient}
 use Rattle.rules.specs.Word.{links, wordAt, partnerAt, wordOf, partnerOf}
-use Rattle.rules.proofs.Range.{InRange, range-inM, phases-half, phases-most, carriers-most}
+use Rattle.rules.proofs.Range.{InRange, range-inM, phases-by-two, phases-most, carriers-most}
 use Rattle.paths.specs.Steps.{pathRow}
 use Rattle.paths.proofs.Members.{isPath-in}
 use Rattle.words.proofs.Labels.{labelPath-lt, coefficient-lt, constant-lt}
@@ -45,9 +44,6 @@ links-sum x n (a ∷ p) e =
 headOf-at : (p : List ℕ) → headOf p ≡ getD p 0 0
 headOf-at [] = refl
 headOf-at (x ∷ p) = refl
-
-pub phases-by-two : (h : ℕ) → 1 ≤ h → phases h / 2 ≡ halfTurn h
-phases-by-two h one = rw (phases-half h one) (mul-div-right (halfTurn h) (lit< tt))
 
 module _ (h m l : ℕ) (range : InRange h m) (used : l < labels h m) where
   abbrev path : List ℕ

@@ -1,11 +1,13 @@
--- Laws of sumBelow and countBelow. In order: one more summand at the end; equal summands; zeros; sums of sums;
--- multiples; a bound; the same of counts; one turn of a loop that adds up or counts; what lies below the whole sum.
+-- Laws of sumBelow and countBelow. In order: one more summand at the end; equal summands; zeros, all or all but one;
+-- sums of sums; multiples; a bound; the same of counts; one turn of a loop that adds up or counts; what lies below the
+-- whole sum.
 -- Not here: tests and searches (Tests), lists (Lists).  Assumes nothing.
 use Prim.Native.Nat.{ℕ, zero, suc, _+_, _*_, _≤_, _<_, zero-le, suc-le-suc}
-use native.Mathlib.Nat.{mul-add, mul-zero, le-refl, suc-mul, not-suc-le-zero, le-of-suc-le-suc}
+use native.Mathlib.Nat.{zero-add, add-zero, mul-add, mul-zero, le-refl, suc-mul, not-suc-le-zero, le-of-suc-le-suc}
 use native.Mathlib.Numerals.{add-one}
 use native.Mathlib.Omega.{arith}
 use mathlib.Core.Path.{_≡_, refl, sym, _∙_, ap}
+use mathlib.Core.Logic.{_≢_}
 use mathlib.Core.Bool.{Bool, true, false}
 use Rattle.range.specs.Below.{sumBelow, countBelow, oneIf}
 
@@ -27,6 +29,16 @@ sumBelow-zero zero f e = refl
 sumBelow-zero (suc n) f e =
     let rest = sumBelow-zero n (λ i. f (suc i)) (λ i h. e (suc i) (suc-le-suc h)) in
     omega (arith, e zero (suc-le-suc zero-le), rest)
+
+-- all summands but one are zero
+pub sumBelow-only : (n k : ℕ) (f : ℕ → ℕ) → k < n → ((i : ℕ) → i < n → i ≢ k → f i ≡ 0) → sumBelow n f ≡ f k
+unfolding sumBelow
+sumBelow-only zero k f l e = absurd (not-suc-le-zero l)
+sumBelow-only (suc n) zero f l e =
+    rw (sumBelow-zero n (λ i. f (suc i)) (λ i b. e (suc i) (suc-le-suc b) (omega arith))) (add-zero (f 0))
+sumBelow-only (suc n) (suc k) f l e =
+    rw (e 0 (omega arith) (omega arith)) (zero-add _ ∙ sumBelow-only n k (λ i. f (suc i)) (omega arith)
+    (λ i b d. e (suc i) (suc-le-suc b) (omega arith)))
 
 pub sumBelow-add : (n : ℕ) (f g : ℕ → ℕ) → sumBelow n (λ i. f i + g i) ≡ sumBelow n f + sumBelow n g
 unfolding sumBelow

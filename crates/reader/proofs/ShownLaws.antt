@@ -31,7 +31,7 @@ use Rattle.words.proofs.Labels.{messageOf-labelOf}
 use Rattle.words.proofs.Horner.{numberOf-split, numberOf-cong}
 use Rattle.words.proofs.Forms.{length-wordOf, wordOf-at}
 use Rattle.words.proofs.Readings.{wordAt-zero, coefficient-read}
-use Rattle.words.proofs.Used.{used-good}
+use Rattle.words.proofs.Used.{labelPath-good}
 use Rattle.words.proofs.Inject.{wordOf-inj}
 use Rattle.reader.specs.Shown.{Word, shown, shownUpTo, lowOf, labelWith}
 
@@ -103,7 +103,7 @@ module _ (h m : ℕ) (w : List ℕ) (word : Word h m w) where
     unfolding shown
     shown-is k a b =
         sym
-        (coefficient-read h m l (used-good m (labelPath h m l) (range-inM h m range) path-used) k a b
+        (coefficient-read h m l (labelPath-good h m l (range-inM h m range) (labelOf-lt h m g taken)) k a b
         ∙ ap₂ (minus (phases h)) (symbol-is (2 ^ (m - k)) (one-lt m k a b)) (symbol-is 0 (pow-pos m)))
 
     constant-is : symbolAt w 0 ≡ constant h l

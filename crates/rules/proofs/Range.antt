@@ -2,7 +2,7 @@
 -- In order: the ranges of h and m; w; the bits of a message number; the phases and half of them, the carriers, the
 -- paths in use.
 -- Assumes nothing.
-use Prim.Native.Nat.{ℕ, zero, suc, _+_, _-_, _*_, _^_, _≤_}
+use Prim.Native.Nat.{ℕ, zero, suc, _+_, _-_, _*_, _/_, _^_, _≤_}
 use native.Mathlib.Nat.{mul-le-mul, pow-succ'}
 use native.Mathlib.Omega.{arith}
 use mathlib.Core.Path.{_≡_, sym, _∙_, ap, subst}
@@ -61,6 +61,9 @@ pub phases-half : (h : ℕ) → 1 ≤ h → phases h ≡ 2 * halfTurn h
 phases-half h b =
     let e : h ≡ suc (h - 1) = omega arith in
     ap (λ (n : ℕ). 2 ^ n) e ∙ pow-succ' 2 (h - 1)
+
+pub phases-by-two : (h : ℕ) → 1 ≤ h → phases h / 2 ≡ halfTurn h
+phases-by-two h one = omega (arith, phases-half h one)
 
 pub phases-least : (h m : ℕ) → InRange h m → 2 ≤ phases h
 phases-least h m r = pow-mono {i = 1} {j = h} (r .h-least)

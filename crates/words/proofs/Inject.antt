@@ -27,7 +27,7 @@ use Rattle.paths.proofs.Pairs.{onPair}
 use Rattle.words.proofs.Digits.{one-lt, twoAt, digit-two-lt, digit-two-first, digit-two-second, digit-two-off}
 use Rattle.words.proofs.Labels.{label-inj, labelPath-lt, messageOf-labelOf, labelOf-lt}
 use Rattle.words.proofs.Forms.{wordOf-at}
-use Rattle.words.proofs.Used.{used-good, used-inj}
+use Rattle.words.proofs.Used.{labelPath-good, used-inj}
 use Rattle.words.proofs.Readings.{Good, links-cong, linear, wordAt-zero, coefficient-read}
 
 -- s and what completes it to a multiple of q
@@ -83,14 +83,11 @@ module _ (m : ℕ) (range : T (inM m)) where
     same-constant : constant h l ≡ constant h k
     same-constant = sym (wordAt-zero h m l) ∙ same 0 (pow-pos m) ∙ wordAt-zero h m k
 
-    good-label : (n : ℕ) → n < labels h m → Good m (pathAt m (labelPath h m n))
-    good-label n b = used-good m (labelPath h m n) range (labelPath-lt h m n b)
-
     same-coefficient : (j : ℕ) → 1 ≤ j → j ≤ m → coefficient h m l j ≡ coefficient h m k j
     same-coefficient j a b =
-        coefficient-read h m l (good-label l ll) j a b
+        coefficient-read h m l (labelPath-good h m l range ll) j a b
         ∙ ap₂ (minus (phases h)) (same (2 ^ (m - j)) (one-lt m j a b)) (same 0 (pow-pos m))
-        ∙ sym (coefficient-read h m k (good-label k lk) j a b)
+        ∙ sym (coefficient-read h m k (labelPath-good h m k range lk) j a b)
 
     same-linear : (i : ℕ) → linear h m l i ≡ linear h m k i
     same-linear i = sumBelow-cong m _ _ (λ j b. rw (same-coefficient (suc j) (suc-le-suc zero-le) b))
@@ -106,9 +103,9 @@ module _ (m : ℕ) (range : T (inM m)) where
     same-links : (a b : ℕ) → 1 ≤ a → a < b → b ≤ m →
         links (onPair a b) (pathAt m (labelPath h m l)) % 2 ≡ links (onPair a b) (pathAt m (labelPath h m k)) % 2
     same-links a b p q r =
-        ap (λ (n : ℕ). n % 2) (sym (links-onPair m a b p q r (pathAt m (labelPath h m l)) (good-label l ll)))
+        ap (λ (n : ℕ). n % 2) (sym (links-onPair m a b p q r _ (labelPath-good h m l range ll)))
         ∙ same-parity (twoAt m a b) (digit-two-lt m a b p q r)
-        ∙ ap (λ (n : ℕ). n % 2) (links-onPair m a b p q r (pathAt m (labelPath h m k)) (good-label k lk))
+        ∙ ap (λ (n : ℕ). n % 2) (links-onPair m a b p q r _ (labelPath-good h m k range lk))
 
     same-path : labelPath h m l ≡ labelPath h m k
     same-path = used-inj m _ _ range (labelPath-lt h m l ll) (labelPath-lt h m k lk) same-links

@@ -6,11 +6,11 @@ use native.Mathlib.Omega.{arith}
 use mathlib.Core.Path.{_≡_, _∙_, ap}
 use borrow.Author.Needs.{needs}
 use Rattle.rules.specs.Shape.{greatestH, phases, halfTurn, pathsInUse}
-use Rattle.rules.proofs.Range.{InRange, inShape-range, phases-least, phases-most, carriers-most}
+use Rattle.rules.proofs.Range.{InRange, inShape-range, phases-by-two, phases-least, phases-most, carriers-most}
 use Rattle.shape.proofs.Powers.{power-phases}
 use Rattle.paths.specs.Steps.{pathRow}
 use Rattle.words.proofs.Labels.{labelPath-lt}
-use Rattle.encoder.proofs.Formula.{Held, held-cells, held-small, held-walk, held-symbols, phases-by-two}
+use Rattle.encoder.proofs.Formula.{Held, held-cells, held-small, held-walk, held-symbols}
 use Rattle.encoder.proofs.fill.Statement.{statement}
 use Rattle.encoder.proofs.fill.Tie as tie
 

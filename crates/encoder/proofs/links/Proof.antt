@@ -7,6 +7,7 @@ use lib.ListN.{getD}
 use borrow.Author.Needs.{needs}
 use Rattle.range.specs.Below.{sumBelow}
 use Rattle.range.proofs.Sums.{sumBelow-turn}
+use Rattle.rules.specs.Shape.{greatestM}
 use Rattle.encoder.specs.Steps.{cell, linksOf}
 use Rattle.encoder.proofs.Bounds.{link-le, linkSum-le}
 use Rattle.encoder.proofs.links.Statement.{statement}
@@ -37,7 +38,7 @@ abbrev turn : tie.After-at2 Inv-loop μ-loop → tie.In-loop Inv-loop μ-loop
 turn c = turn-first (c .before .before)
 
 -- a step names a row of the generator
-step-le : (c : tie.In-loop Inv-loop μ-loop) (k : ℕ) → k < start c .args .m → getD (start c .args .t2) k 0 ≤ 5
+step-le : (c : tie.In-loop Inv-loop μ-loop) (k : ℕ) → k < start c .args .m → getD (start c .args .t2) k 0 ≤ greatestM
 step-le c k h = omega (arith, start c .pre .1 .0 .steps k h, start c .pre .0 .most)
 
 sub-n : tie.Need-sub-n Inv-loop μ-loop
