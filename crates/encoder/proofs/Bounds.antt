@@ -1,9 +1,10 @@
 -- Bounds on what the encoder adds up, so that no sum of the code wraps.
--- In order: one term of the sum over rows, the sum; one link, the sum over links; the row of the first step.  Assumes nothing.
-use mathlib.Core.List.{List}
+-- In order: one term of the sum over rows, the sum; one link, the sum over links; the row of the first step.
+-- Assumes nothing.
 use Prim.Native.Nat.{ℕ, _+_, _-_, _*_, _≤_, _<_}
 use native.Mathlib.Nat.{mul-le-mul, le-refl}
 use native.Mathlib.Omega.{arith}
+use mathlib.Core.List.{List}
 use lib.ListN.{getD}
 use Rattle.range.specs.Below.{sumBelow}
 use Rattle.range.proofs.Sums.{sumBelow-le}
@@ -14,7 +15,8 @@ module _ (m : ℕ) (g : List (List ℕ)) (cells : Cells m g) (i : ℕ) (inside :
   module _ (c : List ℕ) (small : Small m c) where
     pub term-le : (r : ℕ) → r ≤ m → getD c r 0 * cell g r i ≤ 7
     term-le r h =
-        mul-le-mul {n₁ = getD c r 0} {m₁ = cell g r i} {n₂ = 7} {m₂ = 1} (omega (arith, small .small r h)) (cells .cells r i h inside)
+        mul-le-mul {n₁ = getD c r 0} {m₁ = cell g r i} {n₂ = 7} {m₂ = 1}
+        (omega (arith, small .small r h)) (cells .cells r i h inside)
 
     pub terms-le : (r : ℕ) → r ≤ m + 1 → sumBelow r (λ k. getD c k 0 * cell g k i) ≤ r * 7
     terms-le r h = sumBelow-le r 7 (λ k. getD c k 0 * cell g k i) (λ k l. term-le k (omega arith))

@@ -1,16 +1,17 @@
 -- A label number taken apart by dividing, lowest coefficient first.
 -- Defines:  Taken h m l q r rest c    c and the coefficients above r are taken; rest is what stands above them
--- In order: before the first division but one; a division; after the last.  Assumes nothing.
-use mathlib.Core.Path.{_≡_, refl, sym, _∙_, ap}
+-- In order: after the first division; after one more; after the last.  Assumes nothing.
+use Prim.Native.Nat.{ℕ, zero, suc, _+_, _-_, _/_, _%_, _^_, _≤_, _<_}
+use native.Mathlib.Nat.{pow-suc, div-div-eq-div-mul, eq-or-lt-of-le, not-le-of-lt}
+use native.Mathlib.Omega.{arith}
+use mathlib.Core.Path.{_≡_, sym, _∙_, ap}
 use mathlib.Core.List.{List}
 use mathlib.Core.Logic.{_⊎_, inl, inr}
-use Prim.Native.Nat.{ℕ, zero, suc, _+_, _-_, _*_, _/_, _%_, _^_, _≤_, _<_}
-use native.Mathlib.Nat.{pow-zero, pow-suc, mul-one, one-mul, div-div-eq-div-mul, eq-or-lt-of-le, not-le-of-lt}
-use native.Mathlib.Omega.{arith}
-use lib.ListN.{length, getD, set, replicate, length-set}
+use lib.ListN.{length, getD, set, length-set}
 use lib.Seq.{getD-set-same, getD-set-other}
 use Rattle.rules.specs.Shape.{greatestM, phases}
 use Rattle.rules.specs.Label.{labelPath, coefficient, constant, rowCoefficient}
+use Rattle.words.proofs.Labels.{over-one}
 
 pub record Taken (h m l q r rest : ℕ) (c : List ℕ) : Type 0 where
   pub base : q ≡ phases h
@@ -30,7 +31,7 @@ module _ (h m l q : ℕ) where
   taken-first c b n = record {
     base = b;
     within = omega arith;
-    above = ap (λ (x : ℕ). l / x) (sym (ap (λ (e : ℕ). q ^ e) one ∙ (pow-suc q 0 ∙ ap (λ (x : ℕ). x * q) (pow-zero q) ∙ one-mul q)));
+    above = sym (ap (λ (e : ℕ). l / q ^ e) one ∙ over-one q l);
     long = length-set c 0 (l % q) ∙ n;
     lowest = getD-set-same c 0 (l % q) 0 (omega arith) ∙ ap (λ (x : ℕ). l % x) b;
     rows = λ j h₁ h₂. absurd (not-le-of-lt h₁ h₂);
@@ -48,14 +49,17 @@ module _ (h m l q : ℕ) where
     taken-row : (j : ℕ) → r - 1 < j → j ≤ m → (r ≡ j) ⊎ (r < j) → getD (set c r (rest % q)) j 0 ≡ coefficient h m l j
     taken-row j h₁ h₂ (inl e) =
         ap (λ (k : ℕ). getD (set c r (rest % q)) k 0) (sym e)
-        ∙ getD-set-same c r (rest % q) 0 (omega (arith, t .long, t .within)) ∙ taken-next ∙ ap (λ (k : ℕ). coefficient h m l k) e
+        ∙ getD-set-same c r (rest % q) 0 (omega (arith, t .long, t .within))
+        ∙ taken-next ∙ ap (λ (k : ℕ). coefficient h m l k) e
     taken-row j h₁ h₂ (inr h₃) = getD-set-other c r j (rest % q) 0 (λ e. omega arith) ∙ t .rows j h₃ h₂
 
     pub taken-step : Taken h m l q (r - 1) (rest / q) (set c r (rest % q))
     taken-step = record {
       base = t .base;
       within = omega (arith, t .within);
-      above = ap (λ (x : ℕ). x / q) (t .above) ∙ divide-more l q (m + 1 - r) ∙ ap (λ (e : ℕ). l / q ^ e) (omega (arith, t .within));
+      above =
+          ap (λ (x : ℕ). x / q) (t .above) ∙ divide-more l q (m + 1 - r)
+          ∙ ap (λ (e : ℕ). l / q ^ e) (omega (arith, t .within));
       long = length-set c r (rest % q) ∙ t .long;
       lowest = getD-set-other c r 0 (rest % q) 0 (λ e. omega arith) ∙ t .lowest;
       rows = λ j h₁ h₂. taken-row j h₁ h₂ (eq-or-lt-of-le (omega arith));

@@ -1,30 +1,27 @@
 -- What the encoder combines at a place is the formula of 01: generator rows, path steps and coefficients, modulo 2^h.
--- In order: the paths in use are paths; links as a sum; each part of the symbol; the symbol; what the arrays hold; the two lifts.  Assumes nothing.
-use mathlib.Core.Path.{_≡_, refl, sym, _∙_, ap, ap₂, subst}
-use mathlib.Core.List.{List, [], _∷_}
-use mathlib.Core.Bool.{true}
-use Prim.Native.Nat.{ℕ, zero, suc, _+_, _-_, _*_, _/_, _%_, _^_, _≤_, _<_, zero-le}
-use native.Mathlib.Nat.{lt-of-lt-of-le, suc-ne-zero, suc-inj, mul-div-right, one-mul}
+-- In order: links as a sum; the first of a list; each part of the symbol; the symbol; what the arrays hold; the two
+-- lifts.  Assumes nothing.
+use Prim.Native.Nat.{ℕ, zero, suc, _+_, _-_, _*_, _%_, _≤_, _<_}
+use native.Mathlib.Nat.{lt-of-lt-of-le, suc-ne-zero, suc-inj, one-mul}
 use native.Mathlib.Numerals.{add-one}
 use native.Mathlib.Omega.{arith}
-use lib.Dec.{T, leb, lit<, le→leb}
+use mathlib.Core.Path.{_≡_, refl, sym, _∙_, ap, ap₂, subst}
+use mathlib.Core.List.{List, [], _∷_}
 use lib.ListN.{length, getD}
-use borrow.Author.Tests.{le-leb}
 use Rattle.range.specs.Below.{sumBelow, listBelow}
 use Rattle.range.proofs.Sums.{sumBelow-cong}
 use Rattle.range.proofs.Lists.{listBelow-at, listBelow-cong}
-use Rattle.rules.specs.Shape.{greatestM, phases, halfTurn, carriers, pathsInUse, inM}
+use Rattle.rules.specs.Shape.{greatestM, phases, halfTurn, carriers}
 use Rattle.rules.specs.Place.{digit, generatorAt}
-use Rattle.rules.specs.Path.{IsPath, paths, pathAt, headOf}
+use Rattle.rules.specs.Path.{IsPath, pathAt, headOf}
 use Rattle.rules.specs.Label.{labels, labelPath, labelOf, rowCoefficient}
-use Rattle.rules.specs.Word.{links, formAt, wordAt, partnerAt, wordOf, partnerOf}
+use Rattle.rules.specs.Word.{links, wordAt, partnerAt, wordOf, partnerOf}
+use Rattle.rules.proofs.Range.{InRange, range-inM, phases-by-two, phases-most, carriers-most}
+use Rattle.paths.specs.Steps.{pathRow}
 use Rattle.paths.proofs.Members.{isPath-in}
 use Rattle.words.proofs.Labels.{labelPath-lt, coefficient-lt, constant-lt}
 use Rattle.words.proofs.Forms.{formAt-rows, partnerAt-form}
 use Rattle.words.proofs.Used.{used-isPath}
-use Rattle.words.proofs.Inject.{phases-half}
-use Rattle.rules.proofs.Range.{InRange, range-inM, phases-most, carriers-most}
-use Rattle.paths.specs.Steps.{pathRow}
 use Rattle.encoder.specs.Steps.{generatorRows, cell, linearOf, linksOf, symbolOf, liftedAt, Cells, Small, Walk}
 use Rattle.encoder.proofs.Matrix.{generatorAt-digit, generatorRows-at, generatorRows-cells}
 
@@ -41,15 +38,12 @@ links-sum x n [] e = absurd (suc-ne-zero n (sym e))
 links-sum x n (a ∷ p) e =
     links-cons x a p
     ∙ ap (λ (k : ℕ). sumBelow k (λ j. x (getD (a ∷ p) j 0) * x (getD p j 0))) (suc-inj e)
-    ∙ sumBelow-cong n (λ j. x (getD (a ∷ p) j 0) * x (getD p j 0)) (λ k. x (getD (a ∷ p) k 0) * x (getD (a ∷ p) (k + 1) 0))
-    (λ k _. rw (add-one k))
+    ∙ sumBelow-cong n (λ j. x (getD (a ∷ p) j 0) * x (getD p j 0))
+    (λ k. x (getD (a ∷ p) k 0) * x (getD (a ∷ p) (k + 1) 0)) (λ k _. rw (add-one k))
 
 headOf-at : (p : List ℕ) → headOf p ≡ getD p 0 0
 headOf-at [] = refl
 headOf-at (x ∷ p) = refl
-
-pub phases-by-two : (h : ℕ) → 1 ≤ h → phases h / 2 ≡ halfTurn h
-phases-by-two h one = rw (phases-half h one) (mul-div-right (halfTurn h) (lit< tt))
 
 module _ (h m l : ℕ) (range : InRange h m) (used : l < labels h m) where
   abbrev path : List ℕ
@@ -74,7 +68,8 @@ module _ (h m l : ℕ) (range : InRange h m) (used : l < labels h m) where
     in-row = lt-of-lt-of-le inside (carriers-most h m range)
 
     -- the generator's row at a step is the step's digit
-    step-digit : (k : ℕ) → k < m → cell (generatorRows m) (getD (pathRow m (labelPath h m l)) k 0) i ≡ digit m i (getD path k 0)
+    step-digit : (k : ℕ) → k < m →
+        cell (generatorRows m) (getD (pathRow m (labelPath h m l)) k 0) i ≡ digit m i (getD path k 0)
     step-digit k h₁ =
         ap (λ (r : ℕ). cell (generatorRows m) r i) (step-at k h₁)
         ∙ generatorRows-at m (getD path k 0) i (omega (arith, step-in k h₁ .1, range .m-most)) in-row
@@ -95,7 +90,8 @@ module _ (h m l : ℕ) (range : InRange h m) (used : l < labels h m) where
       unfolding linearOf
       linear-is =
           sumBelow-cong (m + 1) _ (λ r. rowCoefficient h m l r * generatorAt m r i)
-          (λ r h₁. ap₂ (λ (x y : ℕ). x * y) (rows r (omega arith)) (generatorRows-at m r i (omega (arith, range .m-most)) in-row))
+          (λ r h₁. ap₂ (λ (x y : ℕ). x * y) (rows r (omega arith))
+          (generatorRows-at m r i (omega (arith, range .m-most)) in-row))
 
       pub symbol-is : (s : ℕ) →
           symbolOf (generatorRows m) (pathRow m (labelPath h m l)) c m (phases h) s i ≡ liftedAt h m l s i
@@ -150,6 +146,7 @@ pub lifted-word : (h m g : ℕ) → listBelow (carriers m) (liftedAt h m (labelO
 unfolding wordOf
 lifted-word h m g = listBelow-cong (carriers m) _ _ (λ i _. liftedAt-zero h m (labelOf h m g) i)
 
-pub lifted-partner : (h m g : ℕ) → listBelow (carriers m) (liftedAt h m (labelOf h m g) (1 * halfTurn h)) ≡ partnerOf h m g
+pub lifted-partner : (h m g : ℕ) →
+    listBelow (carriers m) (liftedAt h m (labelOf h m g) (1 * halfTurn h)) ≡ partnerOf h m g
 unfolding partnerOf
 lifted-partner h m g = listBelow-cong (carriers m) _ _ (λ i _. liftedAt-one h m (labelOf h m g) i)

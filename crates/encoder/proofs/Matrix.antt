@@ -1,11 +1,10 @@
--- The generator as code holds it. In order: a row past the first holds digits; the rows, and that they are 01's; every cell
--- is 0 or 1.
--- Assumes nothing.
-use mathlib.Core.Path.{_≡_, refl, sym, _∙_, ap, subst}
-use mathlib.Core.List.{List, []}
+-- The generator as code holds it. In order: a row past the first holds digits; an entry is 0 or 1; the rows, and that
+-- they are 01's; every cell is 0 or 1.  Assumes nothing.
 use Prim.Native.Nat.{ℕ, zero, suc, _≤_, _<_, suc-le-suc}
 use native.Mathlib.Nat.{not-suc-le-zero, le-refl, le-of-suc-le-suc, lt-of-lt-of-le}
 use native.Mathlib.Omega.{arith}
+use mathlib.Core.Path.{_≡_, refl, sym, _∙_, ap, subst}
+use mathlib.Core.List.{List, []}
 use lib.ListN.{getD}
 use lib.Pow.{pow-mono}
 use Rattle.range.specs.Below.{listBelow}
@@ -28,7 +27,8 @@ unfolding generatorAt
 generatorAt-le m zero i = le-refl 1
 generatorAt-le m (suc r) i = le-of-suc-le-suc (digit-lt m i (suc r))
 
-pub generatorRows-at : (m r i : ℕ) → r ≤ greatestM → i < carriers greatestM → cell (generatorRows m) r i ≡ generatorAt m r i
+pub generatorRows-at : (m r i : ℕ) → r ≤ greatestM → i < carriers greatestM →
+    cell (generatorRows m) r i ≡ generatorAt m r i
 unfolding generatorRows
 generatorRows-at m r i h l =
     ap (λ (row : List ℕ). getD row i 0)

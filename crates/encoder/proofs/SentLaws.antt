@@ -1,14 +1,14 @@
 -- Laws of the promise of encode and partner.
--- In order: the outcome, refusal by refusal; the promise of a refusal and of a word written; only one outcome satisfies it.
--- Assumes nothing.
-use mathlib.Core.Path.{_≡_, refl, sym, _∙_, ap, subst}
-use mathlib.Core.Bool.{Bool, true, false, not}
-use mathlib.Core.List.{List, []}
+-- In order: the outcome, refusal by refusal; the promise of a refusal and of a word written; a word said in another
+-- way; only one outcome satisfies it; the word where nothing is refused.  Assumes nothing.
 use Prim.Native.Nat.{ℕ}
+use mathlib.Core.Path.{_≡_, refl, sym, _∙_, ap, subst}
+use mathlib.Core.Bool.{true, false}
+use mathlib.Core.List.{List, []}
 use lib.ListN.{length}
 use borrow.Author.Tests.{eq-eqb, ne-eqb}
 use Rattle.rules.specs.Shape.{inShape, carriers}
-use Rattle.rules.specs.Outcome.{Outcome, gives, refuses, allowed}
+use Rattle.rules.specs.Outcome.{Outcome, refuses, allowed}
 use Rattle.rules.specs.Table.{badMessage}
 use Rattle.rules.specs.Refusal.{sendRefusal}
 use Rattle.kinds.proofs.ToldLaws.{refusalTold-inj, gives-not-refuses}
@@ -36,16 +36,23 @@ module _ (h m n g : ℕ) where
 module _ (h m g : ℕ) (word before : List ℕ) where
   pub sent-refused : (r : Written) (k : ℕ) (v : List ℕ) → sendRefusal h m (length before) g ≡ refuses k v →
       writtenTold r ≡ refuses k v → Sent h m g word before r before
-  sent-refused r k v e t = record { told = t ∙ sym e; slice = ap (λ (o : Outcome (Unit {0})). sliceAfter o before word) (sym e) }
+  sent-refused r k v e t = record {
+    told = t ∙ sym e;
+    slice = ap (λ (o : Outcome (Unit {0})). sliceAfter o before word) (sym e);
+  }
 
   pub sent-done : (after : List ℕ) → sendRefusal h m (length before) g ≡ allowed → after ≡ word →
       Sent h m g word before Done after
-  sent-done after e q = record { told = sym e; slice = q ∙ ap (λ (o : Outcome (Unit {0})). sliceAfter o before word) (sym e) }
+  sent-done after e q = record {
+    told = sym e;
+    slice = q ∙ ap (λ (o : Outcome (Unit {0})). sliceAfter o before word) (sym e);
+  }
 
 -- the word may be said in another way
 pub sent-cong : {h m g : ℕ} {word word′ before : List ℕ} {r : Written} {after : List ℕ} → word ≡ word′ →
     Sent h m g word before r after → Sent h m g word′ before r after
-sent-cong {h} {m} {g} {before = before} {r = r} {after = after} e s = subst (λ (w : List ℕ). Sent h m g w before r after) e s
+sent-cong {h} {m} {g} {before = before} {r = r} {after = after} e s =
+    subst (λ (w : List ℕ). Sent h m g w before r after) e s
 
 -- an answer is read back from what it tells
 writtenTold-inj : (r s : Written) → writtenTold r ≡ writtenTold s → r ≡ s

@@ -1,11 +1,13 @@
--- What encode and partner promise: 01 "What a logger may send", "The partner and the pair check", "When the receiver says no".
+-- What encode and partner promise: 01 "What a logger may send", "The partner and the pair check", "When the receiver
+-- says no".
 -- Defines:  writtenTold r    what an answer says, in 01's terms
---           sliceAfter o old new    what a slice that held old holds after the outcome o: new, or old where o is a refusal
+--           sliceAfter o old new    what a slice that held old holds after the outcome o: new, or old where o is a
+--                                   refusal
 --           Sent h m g word before r after    the promise: the answer, and the slice that held `before`
 -- Laws: proofs/SentLaws.antt (only one outcome satisfies it).  Assumes nothing: these are definitions.
+use Prim.Native.Nat.{ℕ}
 use mathlib.Core.Path.{_≡_}
 use mathlib.Core.List.{List}
-use Prim.Native.Nat.{ℕ}
 use lib.ListN.{length}
 use Rattle.rules.specs.Outcome.{Outcome, gives, refuses, allowed}
 use Rattle.rules.specs.Refusal.{sendRefusal}

@@ -1,5 +1,7 @@
--- What the steps of the encoder compute, said of the arrays that they hold. Not 01's rules: proofs/Formula.antt ties these to them.
--- Defines:  generatorRows m      the generator as code holds it: a row for each coefficient of the greatest m, all places
+-- What the steps of the encoder compute, said of the arrays that they hold. Not 01's rules: proofs/Formula.antt ties
+-- these to them.
+-- Defines:  generatorRows m      the generator as code holds it: a row for each coefficient of the greatest m, all
+--                                places
 --           cell g r i           row r of the array g at place i
 --           linearOf, linksOf    the sum over the rows, and over the links, at place i
 --           symbolOf             both, with s times the row of the first step, modulo q
@@ -7,9 +9,9 @@
 --           Split h m l t        the parts t of label l
 --           Cells m g, Small m c, Walk m p    bounds on the arrays, so that no sum wraps and no index lies outside
 -- Assumes nothing: these are definitions.
+use Prim.Native.Nat.{ℕ, suc, _+_, _-_, _*_, _/_, _%_, _≤_, _<_}
 use mathlib.Core.Path.{_≡_}
 use mathlib.Core.List.{List, []}
-use Prim.Native.Nat.{ℕ, suc, _+_, _-_, _*_, _/_, _%_, _≤_, _<_}
 use lib.ListN.{getD}
 use Rattle.range.specs.Below.{sumBelow, listBelow}
 use Rattle.rules.specs.Shape.{greatestH, greatestM, carriers, phases}

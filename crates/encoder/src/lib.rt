@@ -7,28 +7,17 @@ use kinds::Refusal;
 use shape::PLACES;
 use shape::ROWS;
 use shape::STEPS;
+ghost use Prim.Native.Nat.{_+_, _-_, _*_, _%_, _≤_, _<_};
 ghost use mathlib.Core.Path.{_≡_};
-ghost use mathlib.Core.Bool.{true, cond};
-ghost use mathlib.Core.List.{List, []};
-ghost use Prim.Native.Nat.{ℕ, zero, suc, _+_, _-_, _*_, _%_, _≤_, _<_};
-ghost use lib.ListN.{length, getD};
+ghost use mathlib.Core.Bool.{true};
+ghost use lib.ListN.{length};
 ghost use Rattle.range.specs.Below.{listBelow};
-ghost use Rattle.rules.specs.Shape.{pathsInUse, carriers, inShape, phases, halfTurn, greatestH, greatestM};
+ghost use Rattle.rules.specs.Shape.{carriers, inShape, phases, halfTurn, greatestH, greatestM};
 ghost use Rattle.rules.specs.Place.{digit};
 ghost use Rattle.rules.specs.Label.{labels, labelOf};
 ghost use Rattle.rules.specs.Word.{wordOf, partnerOf};
-ghost use Rattle.encoder.specs.Steps.{
-  generatorRows,
-  cell,
-  linearOf,
-  linksOf,
-  symbolOf,
-  liftedAt,
-  Split,
-  Cells,
-  Small,
-  Walk,
-};
+ghost use Rattle.encoder.specs.Steps.{generatorRows, cell, linearOf, linksOf, symbolOf, liftedAt, Split, Cells};
+ghost use Rattle.encoder.specs.Steps.{Small, Walk};
 ghost use Rattle.encoder.specs.Sent.{Sent};
 
 // The answer of encode and partner.
@@ -61,7 +50,8 @@ pub fn partner(h: u32, m: u32, message: MessageNumber, out: &mut [u8]) -> Writte
 // The word for lift 0 and the partner for lift 1.
 fn send(h: u32, m: u32, message: MessageNumber, lift: u32, out: &mut [u8]) -> Written
     requires { ⌜ lift ≤ 1 ⌝ }
-    ensures { λ r. ⌜ Sent h m (message .0) (listBelow (carriers m) (liftedAt h m (labelOf h m (message .0)) (lift * halfTurn h)))
+    ensures { λ r. ⌜ Sent h m (message .0)
+        (listBelow (carriers m) (liftedAt h m (labelOf h m (message .0)) (lift * halfTurn h)))
         (now (out .entry)) r (now (out .exit)) ⌝ }
 {
     if !shape::in_shape(h, m) {
@@ -108,7 +98,8 @@ fn combine(
     requires { ⌜ Cells m g ⌝ }
     requires { ⌜ Small m c ⌝ }
     requires { ⌜ Walk m p ⌝ }
-    requires { ⌜ (2 ≤ q) × (q ≤ phases greatestH) × (s ≤ halfTurn greatestH) × (length (now out) ≤ carriers greatestM) ⌝ }
+    requires { ⌜ (2 ≤ q) × (q ≤ phases greatestH) × (s ≤ halfTurn greatestH)
+        × (length (now out) ≤ carriers greatestM) ⌝ }
     ensures { λ _. ⌜ now (out .exit) ≡ listBelow (length (now (out .entry))) (symbolOf g p c m q s) ⌝ }
 {
     let mut i = 0;

@@ -1,10 +1,10 @@
 -- An answer can be read back from what it tells, so what it tells determines it.
--- In order: reading back the refusal, and what stands behind; the laws; refusals that tell the same are equal;
--- what is given is not refused.  Assumes nothing.
-use mathlib.Core.Path.{_≡_, refl, sym, _∙_, ap}
-use mathlib.Core.List.{List, [], _∷_, _++_, append-nil}
+-- In order: reading back the refusal, and what stands behind; the laws; refusals that tell the same are equal, and
+-- searches; what is given is not refused.  Assumes nothing.
 use Prim.Native.Nat.{ℕ, _-_}
 use native.Mathlib.Omega.{arith}
+use mathlib.Core.Path.{_≡_, refl, sym, _∙_, ap}
+use mathlib.Core.List.{List, [], _∷_, _++_, append-nil}
 use lib.ListN.{getD, drop}
 use Rattle.rules.specs.Path.{headOf}
 use Rattle.rules.specs.Outcome.{Outcome, gives, refuses}

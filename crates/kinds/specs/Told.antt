@@ -4,10 +4,11 @@
 --           refusalTold r       the refusal as an outcome (rules, specs/Outcome.antt)
 --           telling more o      an outcome, with more behind the numbers that a refusal carries
 --           searchTold s        the place found, if there is one
--- Each promise of a call speaks of its answer through these. Laws: proofs/ToldLaws.antt.  Assumes nothing: these are definitions.
+-- Each promise of a call speaks of its answer through these. Laws: proofs/ToldLaws.antt.
+-- Assumes nothing: these are definitions.
+use Prim.Native.Nat.{ℕ}
 use mathlib.Core.List.{List, [], _∷_, _++_}
 use mathlib.Core.Option.{Option, none, some}
-use Prim.Native.Nat.{ℕ}
 use Rattle.rules.specs.Outcome.{Outcome, gives, refuses}
 use Rattle.kinds.specs.declared.Refusal.{Refusal}
 use Rattle.kinds.specs.declared.Refusal.the-variants.{Shape, Length, Symbol, Message, NoWord, Octary, Value}

@@ -1,15 +1,15 @@
 -- How long lists are. In order: a flatMap; two tests of which each element passes exactly one; a list whose members
 -- all stand in another; a test carried over to another test.
 -- Not here: how often a number stands in a list (Times).  Assumes nothing.
+use Prim.Native.Nat.{ℕ, suc, _+_, _*_, _≤_, zero-le}
+use native.Mathlib.Nat.{suc-mul, zero-mul}
+use native.Mathlib.Omega.{arith}
 use mathlib.Core.Path.{_≡_, refl, sym, _∙_, ap}
 use mathlib.Core.Logic.{_≢_, _⊎_, inl, inr}
 use mathlib.Core.Bool.{Bool, true, false, not}
 use mathlib.Core.List.{List, [], _∷_, map, flatMap}
 use mathlib.Core.List.{List·Memᴰ, List·Memᴰ·head, List·Memᴰ·tail, List·Memᴰ·not-nil, List·Memᴰ·cases-cons}
 use mathlib.Core.List.{Memᴰ·of-map}
-use Prim.Native.Nat.{ℕ, suc, _+_, _*_, _≤_, zero-le}
-use native.Mathlib.Nat.{suc-mul, zero-mul}
-use native.Mathlib.Omega.{arith}
 use lib.ListN.{length, length-append, length-map}
 use Rattle.rules.specs.Path.{keep}
 use Rattle.paths.proofs.Listed.{keep-true, keep-false, keep-mem, mem-keep}

@@ -2,12 +2,12 @@
 -- In order: lists that begin with one number, and with one number after the other; 1, .., m; the orders of
 -- an increasing list; the paths; the dictionary order is strict; a path has one number.
 -- Not here: which lists are paths (Members).  Assumes nothing.
-use mathlib.Core.Path.{_≡_, refl, sym}
-use mathlib.Core.Bool.{not}
-use mathlib.Core.List.{List, [], _∷_, map, flatMap, List·Memᴰ, List·Memᴰ·not-nil, Memᴰ·of-map}
 use Prim.Native.Nat.{ℕ, zero, suc, _<_, suc-le-suc}
 use native.Mathlib.Decide.{decLt}
 use native.Mathlib.Omega.{arith}
+use mathlib.Core.Path.{_≡_, refl, sym}
+use mathlib.Core.Bool.{not}
+use mathlib.Core.List.{List, [], _∷_, map, flatMap, List·Memᴰ, List·Memᴰ·not-nil, Memᴰ·of-map}
 use lib.Dec.{eqb, ltb}
 use lib.ListN.{length}
 use Rattle.rules.specs.Path.{Before, here, later, without, orders, headOf, lastOf, upTo, paths, pathAt}

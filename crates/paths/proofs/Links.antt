@@ -2,12 +2,12 @@
 -- In order: a number with a neighbour on either side is linked to two; what is linked to one alone is an end;
 -- equal heads and equal links make equal lists; lists with equal links have the same ends; the law.
 -- Not here: the links of one pair (Pairs), which lists are paths (Members).  Assumes nothing.
-use mathlib.Core.Path.{_≡_, refl, sym, _∙_}
-use mathlib.Core.Logic.{_≢_, _⊎_, inl, inr}
-use mathlib.Core.List.{List, [], _∷_, List·Memᴰ, List·Memᴰ·not-nil, List·Memᴰ·cases-cons, List·Memᴰ·eq-of-singleton}
 use Prim.Native.Nat.{ℕ, _*_, _%_, _≤_, _<_}
 use native.Mathlib.Decide.{decLe, decLt}
 use native.Mathlib.Omega.{arith}
+use mathlib.Core.Path.{_≡_, refl, sym, _∙_}
+use mathlib.Core.Logic.{_≢_, _⊎_, inl, inr}
+use mathlib.Core.List.{List, [], _∷_, List·Memᴰ, List·Memᴰ·not-nil, List·Memᴰ·cases-cons, List·Memᴰ·eq-of-singleton}
 use lib.ListN.{length}
 use Rattle.rules.specs.Path.{IsPath, headOf, lastOf, times}
 use Rattle.rules.specs.Word.{links}
@@ -70,6 +70,25 @@ end-of-one (z ∷ (w ∷ (v ∷ r))) x y d i o =
 abbrev pub SameLinks : List ℕ → List ℕ → Type 0
 SameLinks p q = (a b : ℕ) → a ≢ b → links (onPair a b) p ≡ links (onPair a b) q
 
+-- two lists that begin alike and have the same links go on alike, and their rests have the same links
+module _ (x v y w : ℕ) (p q : List ℕ) (d : Distinct (x ∷ (v ∷ p))) (e : Distinct (y ∷ (w ∷ q))) (h : x ≡ y)
+    (s : SameLinks (x ∷ (v ∷ p)) (y ∷ (w ∷ q))) where
+  same-second : v ≡ w
+  same-second =
+      let linked : 1 ≤ links (onPair x v) (y ∷ (w ∷ q)) =
+      omega (
+        arith,
+        s x v (second-other x v p d),
+        links-first x v x v p (onPair-left x v x refl) (onPair-right x v v refl),
+      ) in
+      links-head y w v q e (rw h at linked)
+
+  same-rest : SameLinks (v ∷ p) (w ∷ q)
+  unfolding links
+  same-rest a b n =
+      let f : onPair a b x * onPair a b v ≡ onPair a b y * onPair a b w = rw (h, same-second) in
+      omega (arith, s a b n)
+
 pub equal-of-links : (p q : List ℕ) → Distinct p → Distinct q → length p ≡ length q → headOf p ≡ headOf q →
     SameLinks p q → p ≡ q
 unfolding links
@@ -80,24 +99,10 @@ equal-of-links (x ∷ []) (y ∷ []) d e l h s = cc
 equal-of-links (x ∷ []) (y ∷ (w ∷ q)) d e l h s = absurd (omega arith)
 equal-of-links (x ∷ (v ∷ p)) (y ∷ []) d e l h s = absurd (omega arith)
 equal-of-links (x ∷ (v ∷ p)) (y ∷ (w ∷ q)) d e l h s =
-    let i : Distinct (v ∷ p) = distinct-tail x (v ∷ p) d in
-    let j : Distinct (w ∷ q) = distinct-tail y (w ∷ q) e in
-    let t : v ∷ p ≡ w ∷ q = equal-of-links (v ∷ p) (w ∷ q) i j (omega arith) second shorter in
+    let t : v ∷ p ≡ w ∷ q =
+    equal-of-links (v ∷ p) (w ∷ q) (distinct-tail x (v ∷ p) d) (distinct-tail y (w ∷ q) e) (omega arith)
+    (same-second x v y w p q d e h s) (same-rest x v y w p q d e h s) in
     cc
-  where
-    xv : x ≢ v
-    xv = second-other x v p d
-
-    linked : 1 ≤ links (onPair x v) (y ∷ (w ∷ q))
-    linked = omega (arith, s x v xv, links-first x v x v p (onPair-left x v x refl) (onPair-right x v v refl))
-
-    second : v ≡ w
-    second = links-head y w v q e (rw h at linked)
-
-    shorter : SameLinks (v ∷ p) (w ∷ q)
-    shorter a b n =
-        let f : onPair a b x * onPair a b v ≡ onPair a b y * onPair a b w = rw (h, second) in
-        omega (arith, s a b n)
 
 -- the head of p is an end of q
 head-is-end : (p q : List ℕ) → Distinct p → Distinct q → headOf p < lastOf p → ((k : ℕ) → times k p ≡ times k q) →

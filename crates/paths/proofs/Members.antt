@@ -2,16 +2,17 @@
 -- In order: a path is such an order; the law, each way and both; a path by its number; the elements of a path are
 -- in 1..m, and no two are equal.
 -- Not here: orders of any list (Orders), the order of the paths (Increasing).  Assumes nothing.
-use mathlib.Core.Path.{_∙_}
-use mathlib.Core.Logic.{_≢_}
-use mathlib.Core.List.{List, [], List·Memᴰ}
 use Prim.Native.Nat.{ℕ, zero, suc, _≤_, _<_}
 use native.Mathlib.Decide.{decLe}
 use native.Mathlib.Omega.{arith}
-use lib.Dec.{ltb, ltb→lt, lt→ltb}
+use mathlib.Core.Path.{_∙_}
+use mathlib.Core.Logic.{_≢_}
+use mathlib.Core.List.{List, [], List·Memᴰ}
+use lib.Dec.{ltb}
 use lib.ListN.{length, getD}
+use borrow.Author.Tests.{ltb-true, lt-ltb}
 use Rattle.rules.specs.Path.{IsPath, headOf, lastOf, times, orders, upTo, paths, pathAt}
-use Rattle.paths.proofs.Times.{Distinct, true-of, of-true, times-of-mem, distinct-at, getD-mem}
+use Rattle.paths.proofs.Times.{Distinct, times-of-mem, distinct-at, getD-mem}
 use Rattle.paths.proofs.Listed.{mem-keep, keep-mem}
 use Rattle.paths.proofs.Orders.{IsOrder, orders-isOrder, isOrder-orders, order-of-each}
 use Rattle.paths.proofs.UpTo.{length-upTo, times-upTo, times-upTo-zero, times-upTo-above, in-upTo, upTo-distinct}
@@ -35,7 +36,7 @@ paths-isPath m p i =
     record {
       long = o .long ∙ length-upTo m;
       each = λ k a b. o .same k ∙ times-upTo m k a b;
-      ends = ltb→lt (headOf p) (lastOf p) (of-true (ltb (headOf p) (lastOf p)) (r .1));
+      ends = ltb-true (headOf p) (lastOf p) (r .1);
     }
 
 isPath-paths : (m : ℕ) (p : List ℕ) → IsPath m p → List·Memᴰ p (paths m)
@@ -43,7 +44,7 @@ unfolding paths
 isPath-paths m p r =
     mem-keep (λ q. ltb (headOf q) (lastOf q)) p (orders m (upTo m))
     (isOrder-orders m (upTo m) p (length-upTo m) (upTo-distinct m) (isPath-isOrder m p r))
-    (true-of (ltb (headOf p) (lastOf p)) (lt→ltb (headOf p) (lastOf p) (r .ends)))
+    (lt-ltb (headOf p) (lastOf p) (r .ends))
 
 pub path-iff : (m : ℕ) (p : List ℕ) → (List·Memᴰ p (paths m) → IsPath m p) × (IsPath m p → List·Memᴰ p (paths m))
 path-iff m p = (paths-isPath m p, isPath-paths m p)

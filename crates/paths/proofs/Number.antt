@@ -2,20 +2,21 @@
 -- In order: the factorial; the orders of n numbers are n ! many; tests of order; the orders of 1, .., m, none twice,
 -- as many rising from first to last as falling; the law; the paths in use are among them; the paths of 4.
 -- Not here: which lists are paths (Members), their order (Increasing).  Assumes nothing.
-use mathlib.Core.Path.{_≡_, refl, _∙_, ap}
-use mathlib.Core.Logic.{_≢_}
-use mathlib.Core.Bool.{Bool, true, false, not, _&&_}
-use mathlib.Core.List.{List, [], _∷_, map, flatMap, reverse, List·Memᴰ}
 use Prim.Native.Nat.{ℕ, zero, suc, _+_, _*_, _≤_, _<_}
 use native.Mathlib.Nat.{le-antisymm}
 use native.Mathlib.Decide.{decLt}
 use native.Mathlib.Omega.{arith}
-use lib.Dec.{T, leb, ltb, leb→le, ltb→lt, lt→ltb, lit≤}
+use mathlib.Core.Path.{_≡_, refl, _∙_, ap}
+use mathlib.Core.Logic.{_≢_}
+use mathlib.Core.Bool.{Bool, true, false, not, _&&_}
+use mathlib.Core.List.{List, [], _∷_, map, flatMap, reverse, List·Memᴰ}
+use lib.Dec.{T, leb, ltb, leb→le, lit≤}
 use lib.ListN.{length, length-map}
+use borrow.Author.Tests.{lt-ltb, le-ltb}
 use Rattle.range.specs.Below.{listBelow}
 use Rattle.rules.specs.Shape.{greatestM, inM, pathsInUse, pathBits}
 use Rattle.rules.specs.Path.{headOf, lastOf, keep, without, orders, upTo, paths, Before}
-use Rattle.paths.proofs.Times.{Distinct, true-of, of-true, distinct-once, distinct-without, length-without}
+use Rattle.paths.proofs.Times.{Distinct, distinct-once, distinct-without, length-without}
 use Rattle.paths.proofs.Orders.{IsOrder, orders-isOrder, isOrder-orders}
 use Rattle.paths.proofs.UpTo.{length-upTo, upTo-distinct}
 use Rattle.paths.proofs.Sorted.{sorted-imp}
@@ -50,19 +51,12 @@ rises p = ltb (headOf p) (lastOf p)
 abbrev falls : List ℕ → Bool
 falls p = ltb (lastOf p) (headOf p)
 
-ltb-false : (a b : ℕ) → b ≤ a → ltb a b ≡ false
-ltb-false a b h = at (ltb a b) refl
-  where
-    at : (t : Bool) → ltb a b ≡ t → ltb a b ≡ false
-    at true e = absurd (omega (arith, ltb→lt a b (of-true (ltb a b) e)))
-    at false e = e
-
 ltb-other : (a b : ℕ) → a ≢ b → ltb b a ≡ not (ltb a b)
 ltb-other a b n = at (decLt a b)
   where
     at : Dec (a < b) → ltb b a ≡ not (ltb a b)
-    at (yes l) = rw (true-of (ltb a b) (lt→ltb a b l)) (ltb-false b a (omega arith))
-    at (no k) = rw (ltb-false a b (omega arith)) (true-of (ltb b a) (lt→ltb b a (omega arith)))
+    at (yes l) = rw (lt-ltb a b l) (le-ltb b a (omega arith))
+    at (no k) = rw (le-ltb a b (omega arith)) (lt-ltb b a (omega arith))
 
 module _ (m : ℕ) where
   orders-single : Single (orders m (upTo m))

@@ -3,12 +3,12 @@
 -- In order: such a list; with nothing in it, with one number first; what stands in an order; what is an order;
 -- both together; a list in which enough stands and that has no room for more.
 -- Not here: counts (Times), members of lists (Listed), paths (Members).  Assumes nothing.
-use mathlib.Core.Path.{_≡_, refl}
-use mathlib.Core.List.{List, [], _∷_, map, List·Memᴰ, List·Memᴰ·head, List·Memᴰ·eq-of-singleton, Memᴰ·map, Memᴰ·of-map}
 use Prim.Native.Nat.{ℕ, zero, suc, _≤_}
 use native.Mathlib.Nat.{not-suc-le-zero}
 use native.Mathlib.Decide.{ℕ-discrete}
 use native.Mathlib.Omega.{arith}
+use mathlib.Core.Path.{_≡_, refl}
+use mathlib.Core.List.{List, [], _∷_, map, List·Memᴰ, List·Memᴰ·head, List·Memᴰ·eq-of-singleton, Memᴰ·map, Memᴰ·of-map}
 use lib.ListN.{length}
 use Rattle.rules.specs.Path.{times, without, orders}
 use Rattle.paths.proofs.Times.{Distinct, times-here, times-there, times-without, times-without-other}

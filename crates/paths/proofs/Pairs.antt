@@ -3,20 +3,20 @@
 -- In order: the pair's digits; a pair in either order; neighbours; a pair of which one is absent; links of a pair are
 -- 0 or 1; the first two are linked; the head is linked to the second alone.
 -- Not here: lists with the same links (Links).  Assumes nothing.
-use mathlib.Core.Path.{_≡_, refl, sym, _∙_, ap, fun-ext}
-use mathlib.Core.Logic.{_≢_}
-use mathlib.Core.Bool.{Bool, true, false, _||_, or-comm, or-true}
-use mathlib.Core.List.{List, [], _∷_}
 use Prim.Native.Nat.{ℕ, _+_, _*_, _≤_, zero-le}
-use native.Mathlib.Nat.{le-refl}
 use native.Mathlib.Decide.{ℕ-discrete}
 use native.Mathlib.Omega.{arith}
+use mathlib.Core.Path.{_≡_, refl, sym, _∙_, ap, fun-ext}
+use mathlib.Core.Logic.{_≢_}
+use mathlib.Core.Bool.{_||_, or-comm, or-true}
+use mathlib.Core.List.{List, [], _∷_}
 use lib.Dec.{eqb}
+use borrow.Author.Tests.{eq-eqb, ne-eqb}
 use Rattle.range.specs.Below.{oneIf}
+use Rattle.range.proofs.Sums.{oneIf-le}
 use Rattle.rules.specs.Path.{times}
 use Rattle.rules.specs.Word.{links}
-use Rattle.paths.proofs.Times.{Distinct, eqb-same, eqb-other, times-here, times-tail-le}
-use Rattle.paths.proofs.Times.{distinct-tail, distinct-head}
+use Rattle.paths.proofs.Times.{Distinct, times-here, times-tail-le, distinct-tail, distinct-head}
 
 -- 1 at a and at b, 0 elsewhere
 unfoldable pub onPair : ℕ → ℕ → ℕ → ℕ
@@ -24,23 +24,19 @@ onPair a b k = oneIf (eqb k a || eqb k b)
 
 pub onPair-left : (a b k : ℕ) → k ≡ a → onPair a b k ≡ 1
 unfolding onPair
-onPair-left a b k e = rw (eqb-same k a e)
+onPair-left a b k e = rw (eq-eqb k a e)
 
 pub onPair-right : (a b k : ℕ) → k ≡ b → onPair a b k ≡ 1
 unfolding onPair
-onPair-right a b k e = rw (eqb-same k b e, or-true (eqb k a))
+onPair-right a b k e = rw (eq-eqb k b e, or-true (eqb k a))
 
 pub onPair-other : (a b k : ℕ) → k ≢ a → k ≢ b → onPair a b k ≡ 0
 unfolding onPair
-onPair-other a b k d e = rw (eqb-other k a d, eqb-other k b e)
+onPair-other a b k d e = rw (ne-eqb k a d, ne-eqb k b e)
 
 pub onPair-le : (a b k : ℕ) → onPair a b k ≤ 1
 unfolding onPair
-onPair-le a b k = at (eqb k a || eqb k b)
-  where
-    at : (t : Bool) → oneIf t ≤ 1
-    at true = le-refl 1
-    at false = zero-le
+onPair-le a b k = oneIf-le (eqb k a || eqb k b)
 
 pub links-swap : (a b : ℕ) (p : List ℕ) → links (onPair a b) p ≡ links (onPair b a) p
 unfolding onPair

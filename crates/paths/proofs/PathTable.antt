@@ -1,11 +1,11 @@
 -- The table of the paths in use: rows of pathRow for m = 2, 3, .., end to end, and where each m begins.
 -- That the code's constants are these is computed where the code reads them (steps).
 -- In order: the table and the starts; a place of the table lies inside; what stands there.  Assumes nothing.
-use mathlib.Core.Path.{_≡_, refl, sym, _∙_, ap}
-use mathlib.Core.List.{List, []}
 use Prim.Native.Nat.{ℕ, _+_, _-_, _≤_, _<_}
 use native.Mathlib.Omega.{arith}
-use lib.ListN.{length, getD}
+use mathlib.Core.Path.{_≡_, _∙_, ap}
+use mathlib.Core.List.{List, []}
+use lib.ListN.{getD}
 use Rattle.range.specs.Below.{sumBelow, listBelow, rowsBelow}
 use Rattle.range.proofs.Sums.{sumBelow-lt}
 use Rattle.range.proofs.Lists.{length-listBelow, listBelow-at, rowsBelow-at}

@@ -1,11 +1,11 @@
 -- Lists of numbers read backwards. In order: the same numbers as often; an order stays one; the ends change places;
 -- equal backwards, equal forwards; the two ends of a list without duplicates differ.
 -- Not here: how many paths there are (Number).  Assumes nothing.
+use Prim.Native.Nat.{ℕ, _+_, _≤_}
+use native.Mathlib.Omega.{arith}
 use mathlib.Core.Path.{_≡_, refl, sym, _∙_, ap}
 use mathlib.Core.Logic.{_≢_}
 use mathlib.Core.List.{List, [], _∷_, reverse, reverseAux, reverse-reverse, List·Memᴰ, List·Memᴰ·head, List·Memᴰ·tail}
-use Prim.Native.Nat.{ℕ, _+_, _≤_}
-use native.Mathlib.Omega.{arith}
 use lib.ListN.{length, length-reverse}
 use Rattle.rules.specs.Path.{headOf, lastOf, times}
 use Rattle.paths.proofs.Times.{Distinct, times-of-mem, distinct-head}

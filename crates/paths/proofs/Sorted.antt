@@ -1,13 +1,13 @@
 -- Lists in which each element stands in a relation to all later ones. In order: two elements by their places;
 -- a weaker relation; what `keep` keeps; two lists joined; the values of an increasing function.
 -- Not here: orders and paths (Increasing).  Assumes nothing.
+use Prim.Native.Nat.{ℕ, zero, suc, _<_, suc-le-suc, zero-le}
+use native.Mathlib.Nat.{not-suc-le-zero, le-of-suc-le-suc}
 use mathlib.Core.Path.{_≡_, refl}
 use mathlib.Core.Logic.{_⊎_, inl, inr}
 use mathlib.Core.Bool.{Bool, true, false}
 use mathlib.Core.List.{List, [], _∷_, _++_, List·Memᴰ, List·Memᴰ·head, List·Memᴰ·tail, List·Memᴰ·not-nil}
 use mathlib.Core.List.{List·Memᴰ·cases-cons, List·Memᴰ·append-cases}
-use Prim.Native.Nat.{ℕ, zero, suc, _<_, suc-le-suc, zero-le}
-use native.Mathlib.Nat.{not-suc-le-zero, le-of-suc-le-suc}
 use lib.ListN.{length, getD}
 use Rattle.range.specs.Below.{listBelow}
 use Rattle.rules.specs.Path.{keep}

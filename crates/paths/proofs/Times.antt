@@ -1,45 +1,28 @@
--- How often a number stands in a list. In order: equal and other numbers; at the head and past it; in two lists joined;
--- members; what `without` leaves; lists without duplicates, and their elements by place.
+-- How often a number stands in a list. In order: at the head and past it; in two lists joined; members;
+-- what `without` leaves; lists without duplicates, and their elements by place.
 -- Not here: orders (Orders).  Assumes nothing.
-use mathlib.Core.Path.{_≡_, refl, sym, _∙_, ap}
-use mathlib.Core.Logic.{_≢_, _⊎_, inl, inr}
-use mathlib.Core.Bool.{Bool, true, false}
-use mathlib.Core.List.{List, [], _∷_, _++_, List·Memᴰ, List·Memᴰ·head, List·Memᴰ·tail, List·Memᴰ·not-nil}
-use mathlib.Core.List.{List·Memᴰ·cases-cons}
 use Prim.Native.Nat.{ℕ, zero, suc, _+_, _≤_, _<_}
 use native.Mathlib.Nat.{not-suc-le-zero, le-of-suc-le-suc}
 use native.Mathlib.Decide.{ℕ-discrete}
 use native.Mathlib.Omega.{arith}
-use lib.Dec.{T, eqb, eqb→eq, eqb-refl}
+use mathlib.Core.Path.{_≡_, refl, sym, _∙_, ap}
+use mathlib.Core.Logic.{_≢_, _⊎_, inl, inr}
+use mathlib.Core.List.{List, [], _∷_, _++_, List·Memᴰ, List·Memᴰ·head, List·Memᴰ·tail, List·Memᴰ·not-nil}
+use mathlib.Core.List.{List·Memᴰ·cases-cons}
+use lib.Dec.{eqb}
 use lib.ListN.{length, getD}
+use borrow.Author.Tests.{eq-eqb, ne-eqb}
 use Rattle.range.specs.Below.{oneIf}
 use Rattle.rules.specs.Path.{times, keep, without}
-
-pub true-of : (b : Bool) → T b → b ≡ true
-true-of true t = refl
-true-of false t = absurd t
-
-pub of-true : (b : Bool) → b ≡ true → T b
-of-true b e = rw e tt
-
-pub eqb-same : (x k : ℕ) → x ≡ k → eqb x k ≡ true
-eqb-same x k e = rw e (true-of (eqb k k) (eqb-refl k))
-
-pub eqb-other : (x k : ℕ) → x ≢ k → eqb x k ≡ false
-eqb-other x k d = settle (eqb x k) refl
-  where
-    settle : (b : Bool) → eqb x k ≡ b → eqb x k ≡ false
-    settle true e = absurd (d (eqb→eq x k (of-true (eqb x k) e)))
-    settle false e = e
 
 -- the head, and the rest
 pub times-here : (k x : ℕ) (xs : List ℕ) → x ≡ k → times k (x ∷ xs) ≡ suc (times k xs)
 unfolding times
-times-here k x xs e = rw (eqb-same x k e) (omega arith)
+times-here k x xs e = rw (eq-eqb x k e) (omega arith)
 
 pub times-there : (k x : ℕ) (xs : List ℕ) → x ≢ k → times k (x ∷ xs) ≡ times k xs
 unfolding times
-times-there k x xs d = rw (eqb-other x k d) (omega arith)
+times-there k x xs d = rw (ne-eqb x k d) (omega arith)
 
 pub times-tail-le : (k x : ℕ) (xs : List ℕ) → times k xs ≤ times k (x ∷ xs)
 unfolding times
@@ -71,11 +54,11 @@ mem-of-times k (x ∷ xs) h = at (ℕ-discrete x k) (λ l. mem-of-times k xs l)
 -- the elements that `without x` leaves
 without-here : (x y : ℕ) (xs : List ℕ) → y ≡ x → without x (y ∷ xs) ≡ without x xs
 unfolding without keep
-without-here x y xs e = rw (eqb-same y x e, keep)
+without-here x y xs e = rw (eq-eqb y x e, keep)
 
 without-there : (x y : ℕ) (xs : List ℕ) → y ≢ x → without x (y ∷ xs) ≡ y ∷ without x xs
 unfolding without keep
-without-there x y xs d = rw (eqb-other y x d, keep)
+without-there x y xs d = rw (ne-eqb y x d, keep)
 
 pub times-without-same : (x : ℕ) (xs : List ℕ) → times x (without x xs) ≡ 0
 unfolding times without keep

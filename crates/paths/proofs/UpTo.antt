@@ -2,11 +2,11 @@
 -- In order: its length; one more at the end; 0 and the numbers above m; the numbers of the range; what stands is
 -- in range; no duplicates.
 -- Not here: orders of 1, .., m (Members).  Assumes nothing.
-use mathlib.Core.Path.{_≡_, refl, _∙_, ap}
-use mathlib.Core.List.{[], _∷_}
 use Prim.Native.Nat.{ℕ, zero, suc, _+_, _≤_, _<_}
 use native.Mathlib.Decide.{ℕ-discrete, decLe}
 use native.Mathlib.Omega.{arith}
+use mathlib.Core.Path.{_≡_, refl, _∙_, ap}
+use mathlib.Core.List.{[], _∷_}
 use lib.ListN.{length}
 use Rattle.range.specs.Below.{listBelow}
 use Rattle.range.proofs.Lists.{length-listBelow, listBelow-suc}

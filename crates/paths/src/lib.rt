@@ -3,8 +3,8 @@
 use kinds::PathNumber;
 use shape::GREATEST_M;
 use shape::STEPS;
-ghost use mathlib.Core.Path.{_≡_};
 ghost use Prim.Native.Nat.{_≤_, _<_};
+ghost use mathlib.Core.Path.{_≡_};
 ghost use Rattle.rules.specs.Shape.{greatestM, pathsInUse};
 ghost use Rattle.paths.specs.Steps.{pathRow};
 

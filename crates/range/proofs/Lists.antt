@@ -1,11 +1,12 @@
--- Laws of listBelow. In order: its length, its elements, one more at the end, equal elements, a list as its own elements, a list filled from the front, rows end to end.
+-- Laws of listBelow. In order: its length, its elements, one more at the end, equal elements, a list as its own
+-- elements, a list filled from the front, rows end to end.
 -- Not here: sums and counts (Sums), tests and searches (Tests).  Assumes nothing.
-use mathlib.Core.Path.{_≡_, refl, sym, _∙_, ap}
-use mathlib.Core.List.{List, [], _∷_, _++_, append-nil}
 use Prim.Native.Nat.{ℕ, zero, suc, _+_, _<_, zero-le, suc-le-suc}
 use native.Mathlib.Nat.{zero-add, not-suc-le-zero, le-of-suc-le-suc}
 use native.Mathlib.Numerals.{add-one}
 use native.Mathlib.Omega.{arith}
+use mathlib.Core.Path.{_≡_, refl, sym, _∙_, ap}
+use mathlib.Core.List.{List, [], _∷_, _++_, append-nil}
 use lib.ListN.{length, getD, drop, set, List·getD-append}
 use lib.Seq.{drop-length, getD-append-add}
 use Rattle.range.specs.Below.{sumBelow, listBelow, rowsBelow}
@@ -31,7 +32,8 @@ module _ {A : Type 0} where
   unfolding listBelow
   listBelow-cong zero f g e = refl
   listBelow-cong (suc n) f g e =
-      rw (e zero (suc-le-suc zero-le), listBelow-cong n (λ i. f (suc i)) (λ i. g (suc i)) (λ i h. e (suc i) (suc-le-suc h)))
+      let rest = listBelow-cong n (λ i. f (suc i)) (λ i. g (suc i)) (λ i h. e (suc i) (suc-le-suc h)) in
+      rw (e zero (suc-le-suc zero-le), rest)
 
   pub listBelow-getD : (xs : List A) (d : A) → listBelow (length xs) (λ i. getD xs i d) ≡ xs
   unfolding listBelow
@@ -46,7 +48,8 @@ module _ {A : Type 0} where
   unfolding listBelow
   filled-suc i f [] h = absurd (not-suc-le-zero h)
   filled-suc zero f (x ∷ d) h = refl
-  filled-suc (suc i) f (x ∷ d) h = ap (λ (t : List A). f zero ∷ t) (filled-suc i (λ k. f (suc k)) d (le-of-suc-le-suc h))
+  filled-suc (suc i) f (x ∷ d) h =
+      ap (λ (t : List A). f zero ∷ t) (filled-suc i (λ k. f (suc k)) d (le-of-suc-le-suc h))
 
   pub filled-zero : (f : ℕ → A) (d : List A) → d ≡ filled zero f d
   unfolding listBelow
@@ -65,7 +68,8 @@ module _ {A : Type 0} where
 
   -- the end of such a loop: i has reached the length
   pub filled-end : (n i : ℕ) (f : ℕ → A) (d xs : List A) → length d ≡ n → i ≡ n → xs ≡ filled i f d → xs ≡ listBelow n f
-  filled-end n i f d xs l q e = e ∙ ap (λ (k : ℕ). filled k f d) (q ∙ sym l) ∙ filled-all f d ∙ ap (λ (k : ℕ). listBelow k f) l
+  filled-end n i f d xs l q e =
+      e ∙ ap (λ (k : ℕ). filled k f d) (q ∙ sym l) ∙ filled-all f d ∙ ap (λ (k : ℕ). listBelow k f) l
 
   -- rows end to end: element i of row j stands behind the rows before it
   pub rowsBelow-at : (n : ℕ) (f : ℕ → List A) (len : ℕ → ℕ) → ((j : ℕ) → length (f j) ≡ len j) → (j i : ℕ) (d : A) →

@@ -1,11 +1,14 @@
--- Laws of sumBelow and countBelow. In order: one more summand at the end; equal summands; zeros; sums of sums; multiples; bounds.
+-- Laws of sumBelow and countBelow. In order: one more summand at the end; equal summands; zeros, all or all but one;
+-- sums of sums; multiples; a bound; the same of counts; one turn of a loop that adds up or counts; what lies below the
+-- whole sum.
 -- Not here: tests and searches (Tests), lists (Lists).  Assumes nothing.
-use mathlib.Core.Path.{_≡_, refl, sym, _∙_, ap}
-use mathlib.Core.Bool.{Bool, true, false}
 use Prim.Native.Nat.{ℕ, zero, suc, _+_, _*_, _≤_, _<_, zero-le, suc-le-suc}
-use native.Mathlib.Nat.{mul-add, mul-zero, le-refl, suc-mul, not-suc-le-zero, le-of-suc-le-suc}
+use native.Mathlib.Nat.{zero-add, add-zero, mul-add, mul-zero, le-refl, suc-mul, not-suc-le-zero, le-of-suc-le-suc}
 use native.Mathlib.Numerals.{add-one}
 use native.Mathlib.Omega.{arith}
+use mathlib.Core.Path.{_≡_, refl, sym, _∙_, ap}
+use mathlib.Core.Logic.{_≢_}
+use mathlib.Core.Bool.{Bool, true, false}
 use Rattle.range.specs.Below.{sumBelow, countBelow, oneIf}
 
 pub sumBelow-suc : (n : ℕ) (f : ℕ → ℕ) → sumBelow (suc n) f ≡ sumBelow n f + f n
@@ -17,12 +20,25 @@ pub sumBelow-cong : (n : ℕ) (f g : ℕ → ℕ) → ((i : ℕ) → i < n → f
 unfolding sumBelow
 sumBelow-cong zero f g e = refl
 sumBelow-cong (suc n) f g e =
-    omega (arith, e zero (suc-le-suc zero-le), sumBelow-cong n (λ i. f (suc i)) (λ i. g (suc i)) (λ i h. e (suc i) (suc-le-suc h)))
+    let rest = sumBelow-cong n (λ i. f (suc i)) (λ i. g (suc i)) (λ i h. e (suc i) (suc-le-suc h)) in
+    omega (arith, e zero (suc-le-suc zero-le), rest)
 
 pub sumBelow-zero : (n : ℕ) (f : ℕ → ℕ) → ((i : ℕ) → i < n → f i ≡ 0) → sumBelow n f ≡ 0
 unfolding sumBelow
 sumBelow-zero zero f e = refl
-sumBelow-zero (suc n) f e = omega (arith, e zero (suc-le-suc zero-le), sumBelow-zero n (λ i. f (suc i)) (λ i h. e (suc i) (suc-le-suc h)))
+sumBelow-zero (suc n) f e =
+    let rest = sumBelow-zero n (λ i. f (suc i)) (λ i h. e (suc i) (suc-le-suc h)) in
+    omega (arith, e zero (suc-le-suc zero-le), rest)
+
+-- all summands but one are zero
+pub sumBelow-only : (n k : ℕ) (f : ℕ → ℕ) → k < n → ((i : ℕ) → i < n → i ≢ k → f i ≡ 0) → sumBelow n f ≡ f k
+unfolding sumBelow
+sumBelow-only zero k f l e = absurd (not-suc-le-zero l)
+sumBelow-only (suc n) zero f l e =
+    rw (sumBelow-zero n (λ i. f (suc i)) (λ i b. e (suc i) (suc-le-suc b) (omega arith))) (add-zero (f 0))
+sumBelow-only (suc n) (suc k) f l e =
+    rw (e 0 (omega arith) (omega arith)) (zero-add _ ∙ sumBelow-only n k (λ i. f (suc i)) (omega arith)
+    (λ i b d. e (suc i) (suc-le-suc b) (omega arith)))
 
 pub sumBelow-add : (n : ℕ) (f g : ℕ → ℕ) → sumBelow n (λ i. f i + g i) ≡ sumBelow n f + sumBelow n g
 unfolding sumBelow
@@ -32,14 +48,17 @@ sumBelow-add (suc n) f g = omega (arith, sumBelow-add n (λ i. f (suc i)) (λ i.
 pub sumBelow-mul : (n a : ℕ) (f : ℕ → ℕ) → sumBelow n (λ i. a * f i) ≡ a * sumBelow n f
 unfolding sumBelow
 sumBelow-mul zero a f = sym (mul-zero a)
-sumBelow-mul (suc n) a f = ap (λ (s : ℕ). a * f zero + s) (sumBelow-mul n a (λ i. f (suc i))) ∙ sym (mul-add a (f zero) (sumBelow n (λ i. f (suc i))))
+sumBelow-mul (suc n) a f =
+    ap (λ (s : ℕ). a * f zero + s) (sumBelow-mul n a (λ i. f (suc i)))
+    ∙ sym (mul-add a (f zero) (sumBelow n (λ i. f (suc i))))
 
 -- a bound on each summand bounds the sum
 pub sumBelow-le : (n b : ℕ) (f : ℕ → ℕ) → ((i : ℕ) → i < n → f i ≤ b) → sumBelow n f ≤ n * b
 unfolding sumBelow
 sumBelow-le zero b f h = zero-le
 sumBelow-le (suc n) b f h =
-    omega (arith, h zero (suc-le-suc zero-le), sumBelow-le n b (λ i. f (suc i)) (λ i l. h (suc i) (suc-le-suc l)), suc-mul n b)
+    let rest = sumBelow-le n b (λ i. f (suc i)) (λ i l. h (suc i) (suc-le-suc l)) in
+    omega (arith, h zero (suc-le-suc zero-le), rest, suc-mul n b)
 
 pub countBelow-suc : (n : ℕ) (f : ℕ → Bool) → countBelow (suc n) f ≡ countBelow n f + oneIf (f n)
 unfolding countBelow
@@ -49,13 +68,13 @@ pub countBelow-cong : (n : ℕ) (f g : ℕ → Bool) → ((i : ℕ) → i < n �
 unfolding countBelow
 countBelow-cong n f g e = sumBelow-cong n (λ i. oneIf (f i)) (λ i. oneIf (g i)) (λ i h. ap oneIf (e i h))
 
-one?-le : (b : Bool) → oneIf b ≤ 1
-one?-le true = le-refl 1
-one?-le false = zero-le
+pub oneIf-le : (b : Bool) → oneIf b ≤ 1
+oneIf-le true = le-refl 1
+oneIf-le false = zero-le
 
 pub countBelow-le : (n : ℕ) (f : ℕ → Bool) → countBelow n f ≤ n
 unfolding countBelow
-countBelow-le n f = omega (arith, sumBelow-le n 1 (λ i. oneIf (f i)) (λ i _. one?-le (f i)))
+countBelow-le n f = omega (arith, sumBelow-le n 1 (λ i. oneIf (f i)) (λ i _. oneIf-le (f i)))
 
 -- one turn of a loop that adds up
 pub sumBelow-turn : (i s v : ℕ) (f : ℕ → ℕ) → s ≡ sumBelow i f → v ≡ f i → s + v ≡ sumBelow (i + 1) f

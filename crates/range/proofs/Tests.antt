@@ -1,10 +1,11 @@
--- Laws of allBelow and firstBelow. In order: all, from each place, at each place, one more, refuted; the first, found, not found, and back.
+-- Laws of allBelow and firstBelow. In order: both sides of a conjunction, a test not passed; all, from each place,
+-- at each place, one more, equal tests, refuted; the first, found, not found, and back.
 -- Not here: sums and counts (Sums), lists (Lists).  Assumes nothing.
-use mathlib.Core.Path.{_≡_, refl, sym, _∙_, ap, subst}
-use mathlib.Core.Bool.{Bool, true, false, _&&_, false≢true, and-true}
-use mathlib.Core.Option.{Option, none, some}
 use Prim.Native.Nat.{ℕ, zero, suc, _<_, zero-le, suc-le-suc}
 use native.Mathlib.Nat.{not-suc-le-zero, le-of-suc-le-suc}
+use mathlib.Core.Path.{_≡_, refl, sym, _∙_, ap}
+use mathlib.Core.Bool.{Bool, true, false, _&&_, false≢true, and-true, and-assoc}
+use mathlib.Core.Option.{Option, none, some}
 use Rattle.range.specs.Below.{allBelow, firstBelow, zeroOr}
 
 -- both sides of a conjunction
@@ -18,6 +19,11 @@ and-right false b e = absurd (false≢true e)
 
 pub and-of : (a b : Bool) → a ≡ true → b ≡ true → (a && b) ≡ true
 and-of a b p q = rw (p, q)
+
+-- a test that is not passed fails
+pub false-of-not-true : (b : Bool) → (b ≡ true → ⊥) → b ≡ false
+false-of-not-true true h = absurd (h refl)
+false-of-not-true false h = refl
 
 pub allBelow-of : (n : ℕ) (f : ℕ → Bool) → ((i : ℕ) → i < n → f i ≡ true) → allBelow n f ≡ true
 unfolding allBelow
@@ -33,29 +39,22 @@ allBelow-at (suc n) f e zero h = and-left (f zero) (allBelow n (λ k. f (suc k))
 allBelow-at (suc n) f e (suc i) h =
     allBelow-at n (λ k. f (suc k)) (and-right (f zero) (allBelow n (λ k. f (suc k))) e) i (le-of-suc-le-suc h)
 
-and-assoc′ : (a b c : Bool) → (a && (b && c)) ≡ ((a && b) && c)
-and-assoc′ true b c = refl
-and-assoc′ false b c = refl
-
 pub allBelow-suc : (n : ℕ) (f : ℕ → Bool) → allBelow (suc n) f ≡ (allBelow n f && f n)
 unfolding allBelow
 allBelow-suc zero f = and-true (f zero)
 allBelow-suc (suc n) f =
     ap (λ (b : Bool). f zero && b) (allBelow-suc n (λ i. f (suc i)))
-    ∙ and-assoc′ (f zero) (allBelow n (λ i. f (suc i))) (f (suc n))
+    ∙ sym (and-assoc (f zero) (allBelow n (λ i. f (suc i))) (f (suc n)))
 
 pub allBelow-cong : (n : ℕ) (f g : ℕ → Bool) → ((i : ℕ) → i < n → f i ≡ g i) → allBelow n f ≡ allBelow n g
 unfolding allBelow
 allBelow-cong zero f g e = refl
 allBelow-cong (suc n) f g e =
-    rw (e zero (suc-le-suc zero-le), allBelow-cong n (λ i. f (suc i)) (λ i. g (suc i)) (λ i h. e (suc i) (suc-le-suc h)))
-
-is-false : (b : Bool) → (b ≡ true → ⊥) → b ≡ false
-is-false true h = absurd (h refl)
-is-false false h = refl
+    let rest = allBelow-cong n (λ i. f (suc i)) (λ i. g (suc i)) (λ i h. e (suc i) (suc-le-suc h)) in
+    rw (e zero (suc-le-suc zero-le), rest)
 
 pub allBelow-not : (n : ℕ) (f : ℕ → Bool) (i : ℕ) → i < n → f i ≡ false → allBelow n f ≡ false
-allBelow-not n f i h e = is-false (allBelow n f) (λ a. false≢true (sym e ∙ allBelow-at n f a i h))
+allBelow-not n f i h e = false-of-not-true (allBelow n f) (λ a. false≢true (sym e ∙ allBelow-at n f a i h))
 
 -- the first that passes: it does, and none before it
 pub firstBelow-some : (n : ℕ) (f : ℕ → Bool) (i : ℕ) → i < n → f i ≡ true → ((j : ℕ) → j < i → f j ≡ false) →
@@ -80,7 +79,8 @@ pub data Found (n : ℕ) (f : ℕ → Bool) : Option ℕ → Type 0 where
   at : (i : ℕ) → i < n → f i ≡ true → ((j : ℕ) → j < i → f j ≡ false) → Found n f (some i)
   nowhere : ((i : ℕ) → i < n → f i ≡ false) → Found n f none
 
-found-step : (n : ℕ) (f : ℕ → Bool) (b : Bool) (o : Option ℕ) → f zero ≡ b → Found n (λ i. f (suc i)) o → Found (suc n) f (zeroOr b o)
+found-step : (n : ℕ) (f : ℕ → Bool) (b : Bool) (o : Option ℕ) → f zero ≡ b → Found n (λ i. f (suc i)) o →
+    Found (suc n) f (zeroOr b o)
 found-step n f true o e r = at zero (suc-le-suc zero-le) e (λ j l. absurd (not-suc-le-zero l))
 found-step n f false none e (nowhere a) = nowhere (λ i. split i)
   where

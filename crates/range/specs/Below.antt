@@ -7,10 +7,10 @@
 --           listBelow n f     f 0, .., f (n - 1)
 --           rowsBelow n f     the lists f 0, .., f (n - 1), end to end
 -- Laws: proofs/Sums.antt, Tests.antt, FromOne.antt, Lists.antt.  Assumes nothing: these are definitions.
+use Prim.Native.Nat.{ℕ, zero, suc, _+_}
 use mathlib.Core.Bool.{Bool, true, false, _&&_}
 use mathlib.Core.List.{List, [], _∷_, _++_}
 use mathlib.Core.Option.{Option, none, some}
-use Prim.Native.Nat.{ℕ, zero, suc, _+_}
 
 unfoldable pub sumBelow : ℕ → (ℕ → ℕ) → ℕ
 sumBelow zero f = zero

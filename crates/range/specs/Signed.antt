@@ -2,8 +2,8 @@
 -- Defines:  sumℤ n f         f 0 + .. + f (n - 1)
 --           negatedIf b z    z, negated where b is true
 -- Assumes nothing: these are definitions.
-use mathlib.Core.Bool.{Bool, true, false}
 use Prim.Native.Nat.{ℕ, zero, suc}
+use mathlib.Core.Bool.{Bool, true, false}
 use lib.IntN.{ℤ, pos, negℤ, _+ℤ_}
 
 unfoldable pub sumℤ : ℕ → (ℕ → ℤ) → ℤ

@@ -1,17 +1,17 @@
 -- What word reading is to answer on each way out, and that only one answer keeps the promise.
--- In order: the shape, the length, a symbol refused; what is left to the search; the answer is unique.  Assumes nothing.
-use mathlib.Core.Path.{_≡_, refl, sym, _∙_, ap}
+-- In order: the shape, the length, a symbol refused; what is left to the search; the answer is unique.
+-- Assumes nothing.
+use Prim.Native.Nat.{ℕ}
+use mathlib.Core.Path.{_≡_, sym, _∙_, ap}
 use mathlib.Core.Bool.{true, false}
 use mathlib.Core.List.{List, [], _∷_}
 use mathlib.Core.Option.{none, some}
-use Prim.Native.Nat.{ℕ}
 use lib.ListN.{length}
 use borrow.Author.Tests.{eq-eqb, ne-eqb}
 use Rattle.rules.specs.Shape.{inShape, phases, carriers}
-use Rattle.rules.specs.Outcome.{Outcome, gives, refuses}
+use Rattle.rules.specs.Outcome.{refuses}
 use Rattle.rules.specs.Table.{badSymbol, messageWith}
 use Rattle.rules.specs.Refusal.{readOutcome, orNoWord}
-use Rattle.kinds.specs.declared.MessageNumber.{MessageNumber}
 use Rattle.kinds.proofs.ToldLaws.{refusalTold-inj, gives-not-refuses}
 use Rattle.shape.specs.Symbols.{firstBad}
 use Rattle.reader.specs.declared.Reading.{Reading}

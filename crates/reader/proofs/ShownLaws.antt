@@ -1,42 +1,38 @@
--- What the symbols show of a label. In order: as the number of the label's parts; its bounds; the next path; a word shows
--- its own label; the test of a message; the message that has a word, and where no message has it.  Assumes nothing.
-use mathlib.Core.Path.{_≡_, refl, sym, _∙_, ap, ap₂, subst}
-use mathlib.Core.Bool.{Bool, true, false, false≢true}
-use mathlib.Core.List.{List, []}
-use mathlib.Core.Option.{Option, none, some}
-use Prim.Native.Nat.{ℕ, zero, suc, _+_, _-_, _*_, _%_, _^_, _≤_, _<_, zero-le, suc-le-suc}
-use native.Mathlib.Nat.{mod-lt, zero-mul, add-mul, one-mul, lt-irrefl, pow-zero, pow-suc, le-refl, lt-trans, lt-of-lt-of-le, mul-le-mul-left}
+-- What the symbols show of a label. In order: a coefficient's bound; what is shown as the number of the label's parts;
+-- one coefficient more; its bounds; the next path; a word shows its own label; the test of a message; the message
+-- that has a word, and where no message has it.  Assumes nothing.
+use Prim.Native.Nat.{ℕ, zero, suc, _+_, _-_, _*_, _^_, _≤_, _<_}
+use native.Mathlib.Nat.{mod-lt, zero-mul, add-mul, one-mul, lt-irrefl, pow-zero, pow-suc, le-refl, lt-trans}
+use native.Mathlib.Nat.{lt-of-lt-of-le, mul-le-mul-left}
+use native.Mathlib.Numerals.{add-one}
 use native.Mathlib.Omega.{arith}
-use lib.Dec.{T, eqb}
-use lib.ListN.{length, getD}
+use mathlib.Core.Path.{_≡_, refl, sym, _∙_, ap, ap₂, subst}
+use mathlib.Core.Bool.{Bool, true}
+use mathlib.Core.List.{List}
+use mathlib.Core.Option.{none, some}
+use lib.Dec.{eqb}
+use lib.ListN.{getD}
 use lib.Arith.{digits-lt}
 use lib.Pow.{pow-pos, pow-mono}
 use lib.Seq.{ext-getD}
 use borrow.Author.Tests.{eq-eqb, eqb-true}
-use Rattle.range.specs.Below.{allBelow, firstBelow}
-use Rattle.range.proofs.Tests.{allBelow-of, allBelow-at, firstBelow-some, firstBelow-none}
+use Rattle.range.specs.Below.{allBelow}
+use Rattle.range.proofs.Tests.{false-of-not-true, allBelow-of, allBelow-at, firstBelow-some, firstBelow-none}
 use Rattle.rules.specs.Shape.{phases, carriers, pathsInUse, messageBits}
 use Rattle.rules.specs.Label.{labels, labelPath, coefficient, constant, labelOf, messageOf}
 use Rattle.rules.specs.Word.{wordAt, wordOf}
 use Rattle.rules.specs.Pair.{minus}
 use Rattle.rules.specs.Word.{symbolAt}
 use Rattle.rules.specs.Table.{messageWith}
+use Rattle.rules.proofs.Range.{InRange, inShape-range, range-inM, coefficientBits-le}
 use Rattle.words.proofs.Digits.{one-lt}
-use Rattle.words.proofs.Labels.{
-  phases-pow,
-  numberOf,
-  numberOf-lt,
-  numberOf-back,
-  labelPath-lt,
-  labelOf-lt,
-  messageOf-labelOf,
-}
+use Rattle.words.proofs.Labels.{phases-pow, numberOf, numberOf-lt, numberOf-back, labelPath-lt, labelOf-lt}
+use Rattle.words.proofs.Labels.{messageOf-labelOf}
 use Rattle.words.proofs.Horner.{numberOf-split, numberOf-cong}
 use Rattle.words.proofs.Forms.{length-wordOf, wordOf-at}
-use Rattle.words.proofs.Readings.{Good, wordAt-zero, coefficient-read}
-use Rattle.words.proofs.Used.{used-good}
+use Rattle.words.proofs.Readings.{wordAt-zero, coefficient-read}
+use Rattle.words.proofs.Used.{labelPath-good}
 use Rattle.words.proofs.Inject.{wordOf-inj}
-use Rattle.rules.proofs.Range.{InRange, inShape-range, range-inM, coefficientBits-le}
 use Rattle.reader.specs.Shown.{Word, shown, shownUpTo, lowOf, labelWith}
 
 pub shown-lt : (h m : ℕ) (w : List ℕ) (k : ℕ) → shown h m w k < phases h
@@ -47,6 +43,12 @@ shownUpTo-is : (h m : ℕ) (w : List ℕ) (k c0 : ℕ) → shownUpTo h m w k * p
 unfolding shownUpTo numberOf
 shownUpTo-is h m w zero c0 = refl
 shownUpTo-is h m w (suc k) c0 = ap (λ (x : ℕ). x * phases h + c0) (shownUpTo-is h m w k (shown h m w (suc k)))
+
+-- one coefficient more
+pub shownUpTo-next : (h m : ℕ) (w : List ℕ) (k : ℕ) →
+    shownUpTo h m w k * phases h + shown h m w (k + 1) ≡ shownUpTo h m w (k + 1)
+unfolding shownUpTo
+shownUpTo-next h m w k = rw (add-one k)
 
 shownUpTo-lt : (h m : ℕ) (w : List ℕ) (k : ℕ) → shownUpTo h m w k < phases h ^ k
 unfolding shownUpTo
@@ -101,7 +103,7 @@ module _ (h m : ℕ) (w : List ℕ) (word : Word h m w) where
     unfolding shown
     shown-is k a b =
         sym
-        (coefficient-read h m l (used-good m (labelPath h m l) (range-inM h m range) path-used) k a b
+        (coefficient-read h m l (labelPath-good h m l (range-inM h m range) (labelOf-lt h m g taken)) k a b
         ∙ ap₂ (minus (phases h)) (symbol-is (2 ^ (m - k)) (one-lt m k a b)) (symbol-is 0 (pow-pos m)))
 
     constant-is : symbolAt w 0 ≡ constant h l
@@ -110,7 +112,8 @@ module _ (h m : ℕ) (w : List ℕ) (word : Word h m w) where
     shows-label : labelWith h m w (labelPath h m l) ≡ l
     shows-label =
         labelWith-is h m w (labelPath h m l)
-        ∙ numberOf-cong h m (labelPath h m l) (shown h m w) (coefficient h m l) (symbolAt w 0) (constant h l) shown-is constant-is
+        ∙ numberOf-cong h m (labelPath h m l) (shown h m w) (coefficient h m l) (symbolAt w 0) (constant h l) shown-is
+        constant-is
         ∙ numberOf-back h m l
 
     pub shows-message : messageOf h m (labelWith h m w (labelPath h m l)) ≡ g
@@ -132,15 +135,11 @@ module _ (h m : ℕ) (w : List ℕ) (word : Word h m w) where
       let b′ : i < carriers m = subst (λ (n : ℕ). i < n) (length-wordOf h m g) b in
       wordOf-at h m g i b′ ∙ eqb-true _ _ (allBelow-at (carriers m) _ e i b′))
 
-  not-true : (b : Bool) → (b ≡ true → ⊥) → b ≡ false
-  not-true true f = absurd (f refl)
-  not-true false f = refl
-
   pub messageWith-some : (g : ℕ) → g < 2 ^ messageBits h m → wordOf h m g ≡ w → messageWith h m w ≡ some g
   unfolding messageWith
   messageWith-some g taken e =
       firstBelow-some (2 ^ messageBits h m) hasWord g taken (hasWord-of g e)
-      (λ j b. not-true (hasWord j) (λ t. before j b (wordOf-inj m (range-inM h m range) h j g (range .h-least)
+      (λ j b. false-of-not-true (hasWord j) (λ t. before j b (wordOf-inj m (range-inM h m range) h j g (range .h-least)
       (lt-trans b taken) taken (hasWord-is j t ∙ sym e))))
     where
       before : (j : ℕ) → j < g → j ≡ g → ⊥
@@ -151,6 +150,6 @@ module _ (h m : ℕ) (w : List ℕ) (word : Word h m w) where
   unfolding messageWith
   messageWith-none tried =
       firstBelow-none (2 ^ messageBits h m) hasWord
-      (λ g taken. not-true (hasWord g) (λ t. let e : wordOf h m g ≡ w = hasWord-is g t in
+      (λ g taken. false-of-not-true (hasWord g) (λ t. let e : wordOf h m g ≡ w = hasWord-is g t in
       tried (labelPath h m (labelOf h m g)) (path-used g taken e)
       (ap (wordOf h m) (shows-message g taken e) ∙ e)))

@@ -1,5 +1,5 @@
 -- What an answer of word reading says, in the terms of document 01: the message number, or the refusal.
--- Defines:  readingTold r    the answer, as an outcome (Rattle.rules.specs.Refusal)
+-- Defines:  readingTold r    the answer, as an outcome (rules, specs/Outcome.antt)
 -- The promise of `read` speaks of its answer through it.  Assumes nothing: this is a definition.
 use Prim.Native.Nat.{ℕ}
 use Rattle.rules.specs.Outcome.{Outcome, gives}

@@ -4,9 +4,9 @@ use kinds::MessageNumber;
 use kinds::Refusal;
 use kinds::Search;
 use shape::PLACES;
+ghost use Prim.Native.Nat.{_^_, _<_};
 ghost use mathlib.Core.Path.{_≡_};
 ghost use mathlib.Core.Bool.{true};
-ghost use Prim.Native.Nat.{_^_, _<_};
 ghost use lib.ListN.{length};
 ghost use Rattle.rules.specs.Shape.{messageBits};
 ghost use Rattle.rules.specs.Word.{wordOf};
@@ -21,8 +21,8 @@ pub enum Reading {
     Refused(Refusal),
 }
 
-// The message whose word the symbols are exactly. Refuses 1 a shape out of range, 2 a word that is not N long, 3 a symbol
-// that is 2^h or more, with the first such place, 5 symbols that are no message's word. The word is only read.
+// The message whose word the symbols are exactly. Refuses 1 a shape out of range, 2 a word that is not N long, 3 a
+// symbol that is 2^h or more, with the first such place, 5 symbols that are no message's word. The word is only read.
 pub fn read(h: u32, m: u32, word: &[u8]) -> Reading
     ensures { λ r. ⌜ readingTold r ≡ readOutcome h m (now (word .entry)) ⌝ }
 {

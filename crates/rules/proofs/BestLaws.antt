@@ -1,13 +1,12 @@
 -- Laws of Best. In order: only one outcome satisfies it; a tied best from tests; equal values give label 0, tied.
 -- Assumes nothing.
-use mathlib.Core.Path.{_≡_, refl, sym, _∙_, ap, subst}
+use Prim.Native.Nat.{ℕ, _<_, _≤_}
+use native.Mathlib.Nat.{not-suc-le-zero, le-antisymm, lt-of-not-le, le-of-suc-le-suc, le-step, suc-ne-zero}
+use native.Mathlib.Decide.{decLt}
+use mathlib.Core.Path.{_≡_, refl, sym, subst}
 use mathlib.Core.Bool.{Bool, true, false, not}
 use mathlib.Core.Logic.{_≢_, _↔_}
-use Prim.Native.Nat.{ℕ, _<_, _≤_}
-use native.Mathlib.Nat.{not-suc-le-zero, le-antisymm, lt-of-not-le, le-of-suc-le-suc}
-use native.Mathlib.Decide.{decLt}
 use lib.Dec.{T, T-not}
-use lib.IntN.{ℤ, pos, negsuc}
 use Rattle.range.specs.Below.{allBelow}
 use Rattle.range.proofs.Tests.{allBelow-at}
 use Rattle.rules.specs.Best.{Best}
@@ -24,7 +23,8 @@ module _ {X : Type 0} (n : ℕ) (noBetter : X → X → Bool) (value : ℕ → X
       le-of : (k < l → ⊥) → l ≤ k
       le-of h = le-of-suc-le-suc (lt-of-not-le h)
 
-  best-no-better : (l k : ℕ) (v w : X) (s t : Bool) → Best n noBetter value l v s → Best n noBetter value k w t → T (noBetter v w)
+  best-no-better : (l k : ℕ) (v w : X) (s t : Bool) → Best n noBetter value l v s → Best n noBetter value k w t →
+      T (noBetter v w)
   best-no-better l k v w s t p q = subst (λ (x : X). T (noBetter x w)) (sym (p .attained)) (q .best l (p .inside))
 
   best-label : (l k : ℕ) (v : X) (s t : Bool) → Best n noBetter value l v s → Best n noBetter value k v t → l ≡ k
@@ -42,10 +42,11 @@ module _ {X : Type 0} (n : ℕ) (noBetter : X → X → Bool) (value : ℕ → X
       let i : l ≡ k = best-label l k v s t p r in
       (i, e, best-tied k v s t (subst (λ (j : ℕ). Best n noBetter value j v s) i p) r)
 
-  -- a best that is tied with k, by tests: every value is no better than l's, each before l is not as good, and k's is equal
+  -- a best that is tied with k, by tests: every value is no better than l's, each before l is not as good,
+  -- and k's is equal
   pub best-of-tests : (l k : ℕ) → l < n → k < n → k ≢ l → value k ≡ value l → T (noBetter (value l) (value l)) →
-      allBelow n (λ j. noBetter (value j) (value l)) ≡ true → allBelow l (λ j. not (noBetter (value l) (value j))) ≡ true →
-      Best n noBetter value l (value l) true
+      allBelow n (λ j. noBetter (value j) (value l)) ≡ true →
+      allBelow l (λ j. not (noBetter (value l) (value j))) ≡ true → Best n noBetter value l (value l) true
   best-of-tests l k hl hk ne e self all before = record {
     inside = hl;
     attained = refl;
@@ -59,9 +60,9 @@ module _ {X : Type 0} (n : ℕ) (noBetter : X → X → Bool) (value : ℕ → X
   -- where all values are equal the first label is best, and it is tied with the second
   pub best-of-equal : (v : X) → 1 < n → ((k : ℕ) → value k ≡ v) → T (noBetter v v) → Best n noBetter value 0 v true
   best-of-equal v two all self = record {
-    inside = le-of-suc-le-suc (native.Mathlib.Nat.le-step two);
+    inside = le-of-suc-le-suc (le-step two);
     attained = sym (all 0);
     best = λ k _. subst (λ (x : X). T (noBetter x v)) (sym (all k)) self;
     earliest = λ k h. absurd (not-suc-le-zero h);
-    tie = (λ _. ∣ (1, two, native.Mathlib.Nat.suc-ne-zero 0, all 1) ∣₁, λ _. refl);
+    tie = (λ _. ∣ (1, two, suc-ne-zero 0, all 1) ∣₁, λ _. refl);
   }

@@ -1,12 +1,12 @@
 -- Every starred case of 01 is right: the one claim about the list of specs/Known.antt, by computation.
--- In order: a shape outside its range; the soft case; the hard case; the claim.  Assumes nothing.
-use mathlib.Core.Path.{_≡_, refl}
-use mathlib.Core.Bool.{Bool, true, false, and-false}
-use mathlib.Core.List.{List, [], _∷_, flatMap}
+-- In order: a shape outside its range; the soft case; the hard case; silence; the claim.  Assumes nothing.
 use Prim.Native.Nat.{ℕ, _≤_}
 use native.Mathlib.Omega.{arith}
+use mathlib.Core.Path.{_≡_, refl}
+use mathlib.Core.Bool.{true, false, and-false}
+use mathlib.Core.List.{[], _∷_, flatMap}
 use lib.Dec.{lit<, leb}
-use lib.IntN.{ℤ, pos}
+use lib.IntN.{pos}
 use lib.ListN.{length, replicate, length-replicate}
 use lib.Signed.{leZ}
 use borrow.Author.Tests.{eqb-false, eq-eqb, ne-eqb}
@@ -20,17 +20,11 @@ use Rattle.rules.specs.Word.{links, formAt, wordAt, partnerAt, wordOf, p
 use Rattle.rules.specs.Pair.{minus, phaseCount, pairCount, golayPair}
 use Rattle.rules.specs.Distance.{hamming, distance}
 use Rattle.rules.specs.Soft.{heard, correlation, softLength}
-use Rattle.rules.specs.Outcome.{refuses, allowed}
+use Rattle.rules.specs.Outcome.{allowed}
 use Rattle.rules.specs.Table.{badShape, badSymbol, messageWith}
-use Rattle.rules.specs.Refusal.{
-  sendRefusal,
-  pairOutcome,
-  readOutcome,
-  softRefusal,
-  hardRefusal,
-  transformRefusal,
-}
-use Rattle.rules.specs.Known.{Refused1, reaching, Right, AllRight, starred, fourLeast, outsideM, soft, hard, silence}
+use Rattle.rules.specs.Refusal.{sendRefusal, pairOutcome, readOutcome, softRefusal, hardRefusal, transformRefusal}
+use Rattle.rules.specs.Known.{Refused1, reaching, Right, AllRight, starred, fourLeast, outsideM, soft, hard}
+use Rattle.rules.specs.Known.{silence}
 use Rattle.rules.proofs.Range.{inShape-range}
 use Rattle.rules.proofs.BestLaws.{best-of-tests}
 use Rattle.rules.proofs.Silence.{greatest-of-zeros}
@@ -46,22 +40,23 @@ outside-m m e = (λ h. refused-one h m (rw (e, and-false (inH h))), λ y n. rw e
 
 soft-right : Right (soft 1 2 fourLeast 1 (pos 65536) (3 ∷ 5 ∷ 6 ∷ []))
 unfolding
-    softRefusal allBelow correlation sumℤ heard wordAt formAt links digit pathAt paths keep without orders upTo listBelow flatMap
-    labelPath coefficient constant labelOf pathBits sumBelow reaching
+    softRefusal allBelow correlation sumℤ heard wordAt formAt links digit pathAt paths keep without orders upTo
+    listBelow flatMap labelPath coefficient constant labelOf pathBits sumBelow reaching
 soft-right = (
   refl,
-  best-of-tests (labels 1 2) leZ (correlation 1 2 fourLeast) 1 3 (lit< tt) (lit< tt) (eqb-false 3 1 refl) refl tt refl refl,
+  best-of-tests (labels 1 2) leZ (correlation 1 2 fourLeast) 1 3
+      (lit< tt) (lit< tt) (eqb-false 3 1 refl) refl tt refl refl,
   refl,
 )
 
 hard-right : Right (hard 1 2 (1 ∷ 1 ∷ 1 ∷ 1 ∷ []) 1 1)
 unfolding
-    hardRefusal badSymbol firstBelow allBelow countBelow hamming distance wordAt formAt links digit pathAt paths keep without orders
-    upTo listBelow flatMap labelPath coefficient constant labelOf pathBits sumBelow
+    hardRefusal badSymbol firstBelow allBelow countBelow hamming distance wordAt formAt links digit pathAt paths keep
+    without orders upTo listBelow flatMap labelPath coefficient constant labelOf pathBits sumBelow
 hard-right = (
   refl,
-  best-of-tests (labels 1 2) (λ a b. leb b a) (λ k. distance 1 4 (symbolAt (1 ∷ 1 ∷ 1 ∷ 1 ∷ [])) (wordAt 1 2 k)) 1 3 (lit< tt)
-      (lit< tt) (eqb-false 3 1 refl) refl tt refl refl,
+  best-of-tests (labels 1 2) (λ a b. leb b a) (λ k. distance 1 4 (symbolAt (1 ∷ 1 ∷ 1 ∷ 1 ∷ [])) (wordAt 1 2 k)) 1 3
+      (lit< tt) (lit< tt) (eqb-false 3 1 refl) refl tt refl refl,
 )
 
 -- zeros of the right length are not refused
@@ -83,9 +78,9 @@ a & b = (a, b)
 
 pub known : AllRight starred
 unfolding
-    _&_ starred wordOf partnerOf wordAt partnerAt formAt links digit pathAt paths keep without orders upTo listBelow flatMap labelPath
-    coefficient constant labelParts labelOf pathBits sumBelow countBelow allBelow firstBelow minus phaseCount pairCount golayPair
-    badSymbol messageWith sendRefusal pairOutcome readOutcome
+    _&_ starred wordOf partnerOf wordAt partnerAt formAt links digit pathAt paths keep without orders upTo listBelow
+    flatMap labelPath coefficient constant labelParts labelOf pathBits sumBelow countBelow allBelow firstBelow minus
+    phaseCount pairCount golayPair badSymbol messageWith sendRefusal pairOutcome readOutcome
 known =
     (refl, refl) & (refl, refl) & refl
     & (refl, refl) & (refl, refl) & (refl, refl)

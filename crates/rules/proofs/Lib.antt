@@ -1,4 +1,5 @@
--- Laws of Best, and the starred cases of 01 as one list with one claim. The other laws of the rules: crates paths and words.
+-- Bounds of a shape in range, laws of Best, and the starred cases of 01 as one list with one claim. The other laws of
+-- the rules: crates paths and words.
 pub mod Range
 pub mod BestLaws
 pub mod Silence

@@ -1,29 +1,20 @@
 -- Bounds that a shape in range gives.
--- In order: the ranges of h and m; w; the bits of a message number; the phases, the carriers, the paths in use.
+-- In order: the ranges of h and m; w; the bits of a message number; the phases and half of them, the carriers, the
+-- paths in use.
 -- Assumes nothing.
-use mathlib.Core.Path.{_≡_, sym, subst}
+use Prim.Native.Nat.{ℕ, zero, suc, _+_, _-_, _*_, _/_, _^_, _≤_}
+use native.Mathlib.Nat.{mul-le-mul, pow-succ'}
+use native.Mathlib.Omega.{arith}
+use mathlib.Core.Path.{_≡_, sym, _∙_, ap, subst}
 use mathlib.Core.Bool.{true}
 use mathlib.Core.List.{[], _∷_}
-use Prim.Native.Nat.{ℕ, zero, suc, _+_, _-_, _*_, _≤_}
-use native.Mathlib.Nat.{mul-le-mul}
-use native.Mathlib.Omega.{arith}
 use lib.Dec.{T, leb, lit≤}
 use lib.ListN.{getD}
 use lib.Pow.{pow-mono}
 use borrow.Author.Tests.{leb-true, le-leb}
 use Rattle.range.proofs.Tests.{and-left, and-right, and-of}
-use Rattle.rules.specs.Shape.{
-  greatestH,
-  greatestM,
-  pathBits,
-  inH,
-  inM,
-  inShape,
-  phases,
-  carriers,
-  pathsInUse,
-  messageBits,
-}
+use Rattle.rules.specs.Shape.{greatestH, greatestM, pathBits, inH, inM, inShape, phases, carriers, pathsInUse}
+use Rattle.rules.specs.Shape.{messageBits, halfTurn}
 
 pub record InRange (h m : ℕ) : Type 0 where
   pub h-least : 1 ≤ h
@@ -59,10 +50,20 @@ unfolding pathBits
 pathBits-le m = entry-le (m - 2)
 
 pub coefficientBits-le : (h m : ℕ) → InRange h m → h * (m + 1) ≤ greatestH * (greatestM + 1)
-coefficientBits-le h m r = mul-le-mul {n₁ = h} {m₁ = m + 1} {n₂ = greatestH} {m₂ = greatestM + 1} (r .h-most) (omega (arith, r .m-most))
+coefficientBits-le h m r =
+    mul-le-mul {n₁ = h} {m₁ = m + 1} {n₂ = greatestH} {m₂ = greatestM + 1} (r .h-most) (omega (arith, r .m-most))
 
 pub messageBits-le : (h m : ℕ) → InRange h m → messageBits h m ≤ 23
 messageBits-le h m r = omega (arith, pathBits-le m, coefficientBits-le h m r)
+
+-- 2^h is twice 2^(h-1)
+pub phases-half : (h : ℕ) → 1 ≤ h → phases h ≡ 2 * halfTurn h
+phases-half h b =
+    let e : h ≡ suc (h - 1) = omega arith in
+    ap (λ (n : ℕ). 2 ^ n) e ∙ pow-succ' 2 (h - 1)
+
+pub phases-by-two : (h : ℕ) → 1 ≤ h → phases h / 2 ≡ halfTurn h
+phases-by-two h one = omega (arith, phases-half h one)
 
 pub phases-least : (h m : ℕ) → InRange h m → 2 ≤ phases h
 phases-least h m r = pow-mono {i = 1} {j = h} (r .h-least)

@@ -1,17 +1,18 @@
 -- Soft values that are all zero: every correlation is zero, for two and four phases and every m.
--- In order: a zero value is heard as zero; zeros sum to zero; the correlation; the best of equals.  Assumes nothing.
-use mathlib.Core.Path.{_≡_, refl, _∙_, sym, ap, subst}
-use mathlib.Core.Bool.{Bool, true, false, cond}
-use mathlib.Core.List.{List, [], _∷_}
-use Prim.Native.Nat.{ℕ, zero, suc, _+_, _*_, _^_, _<_, _≤_}
-use native.Mathlib.Nat.{pow-le-pow-right, lt-of-lt-of-le, le-refl}
+-- In order: a zero value is heard as zero; zeros sum to zero; the correlation; two labels at least; the best of equals.
+-- Assumes nothing.
+use Prim.Native.Nat.{ℕ, zero, suc, _+_, _*_, _<_, _≤_}
+use native.Mathlib.Nat.{pow-le-pow-right, lt-of-lt-of-le, le-refl, mul-le-mul}
 use native.Mathlib.Omega.{arith}
+use mathlib.Core.Path.{_≡_, refl}
+use mathlib.Core.Bool.{Bool, true, false, cond}
+use mathlib.Core.List.{List}
 use lib.Dec.{eqb, lit≤}
 use lib.IntN.{ℤ, pos}
 use lib.ListN.{getD, replicate}
 use lib.Signed.{leZ}
 use Rattle.range.specs.Signed.{sumℤ, negatedIf}
-use Rattle.rules.specs.Shape.{carriers, messageBits, pathBits}
+use Rattle.rules.specs.Shape.{carriers, messageBits}
 use Rattle.rules.specs.Label.{labels, labelOf}
 use Rattle.rules.specs.Word.{wordAt}
 use Rattle.rules.specs.Soft.{heard, heardTwo, heardFour, correlation, softLength}
@@ -45,7 +46,8 @@ heard-zero : (h n i s : ℕ) → heard h (zeros n) i s ≡ pos 0
 unfolding heard
 heard-zero h n i s =
     rw (zeros-at n i, zeros-at n (2 * i), zeros-at n (2 * i + 1))
-    (cond-same (eqb h 1) (heardTwo (pos 0) s) (heardFour (pos 0) (pos 0) s) (pos 0) (signed-zero (eqb s 1)) (heardFour-zero s))
+    (cond-same (eqb h 1) (heardTwo (pos 0) s) (heardFour (pos 0) (pos 0) s) (pos 0) (signed-zero (eqb s 1))
+    (heardFour-zero s))
 
 sumℤ-zero : (n : ℕ) (f : ℕ → ℤ) → ((i : ℕ) → f i ≡ pos 0) → sumℤ n f ≡ pos 0
 unfolding sumℤ
@@ -60,11 +62,13 @@ correlation-zero h m n l =
 -- a shape has at least two labels
 pub labels-two : (h m : ℕ) → 1 ≤ h → 1 < labels h m
 labels-two h m one =
-    let b : 1 ≤ messageBits h m = omega (arith, native.Mathlib.Nat.mul-le-mul {n₁ = 1} {m₁ = 1} {n₂ = h} {m₂ = m + 1} one (omega arith)) in
+    let b : 1 ≤ messageBits h m =
+    omega (arith, mul-le-mul {n₁ = 1} {m₁ = 1} {n₂ = h} {m₂ = m + 1} one (omega arith)) in
     lt-of-lt-of-le (le-refl 2) (pow-le-pow-right {n = 2} (lit≤ tt) {i = 1} {j = messageBits h m} b)
 
 -- 01: any soft shape, all zeros
-pub greatest-of-zeros : (h m : ℕ) → 1 ≤ h → Greatest h m (replicate (softLength h m) (pos 0)) (labelOf h m 0) (pos 0) true
+pub greatest-of-zeros : (h m : ℕ) → 1 ≤ h →
+    Greatest h m (replicate (softLength h m) (pos 0)) (labelOf h m 0) (pos 0) true
 unfolding zeros labelOf
 greatest-of-zeros h m one =
     best-of-equal (labels h m) leZ (correlation h m (zeros (softLength h m))) (pos 0) (labels-two h m one)

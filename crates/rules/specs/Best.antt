@@ -1,14 +1,14 @@
 -- Which label a decoder answers: 01 "What the receiver hears".
--- Defines:  Best n noBetter value l v tied    among the labels below n, l has the best value v, and is the earliest that has it;
---                                             tied says whether another label has it too
+-- Defines:  Best n noBetter value l v tied    among the labels below n, l has the best value v, and is the earliest
+--                                             that has it; tied says whether another label has it too
 --           Greatest h m ys l v tied          the greatest correlation over every label of the shape
 --           Nearest h m w l d tied            the least distance over every label of the shape
 -- Laws: proofs/BestLaws.antt (two outcomes that satisfy Best are equal).  Assumes nothing: these are definitions.
+use Prim.Native.Nat.{ℕ, _<_}
 use mathlib.Core.Path.{_≡_}
 use mathlib.Core.Bool.{Bool, true}
 use mathlib.Core.List.{List}
 use mathlib.Core.Logic.{_≢_, _↔_}
-use Prim.Native.Nat.{ℕ, _<_}
 use lib.Dec.{T, leb}
 use lib.IntN.{ℤ}
 use lib.Signed.{leZ}
@@ -19,7 +19,8 @@ use Rattle.rules.specs.Distance.{distance}
 use Rattle.rules.specs.Soft.{correlation}
 
 -- `noBetter u v` says that a value u is no better than a value v
-pub record Best {X : Type 0} (n : ℕ) (noBetter : X → X → Bool) (value : ℕ → X) (l : ℕ) (v : X) (tied : Bool) : Type 0 where
+pub record Best {X : Type 0} (n : ℕ) (noBetter : X → X → Bool) (value : ℕ → X) (l : ℕ) (v : X) (tied : Bool)
+    : Type 0 where
   pub inside : l < n
   pub attained : v ≡ value l
   pub best : (k : ℕ) → k < n → T (noBetter (value k) v)

@@ -4,8 +4,8 @@
 --           lee h n a b         the sum over places of leeOf of the difference modulo 2^h
 --           distance h n a b    differing places for h = 1, else Lee distance
 -- Assumes nothing: these are definitions.
-use mathlib.Core.Bool.{cond, not}
 use Prim.Native.Nat.{ℕ, _-_, min}
+use mathlib.Core.Bool.{cond, not}
 use lib.Dec.{eqb}
 use Rattle.range.specs.Below.{sumBelow, countBelow}
 use Rattle.rules.specs.Shape.{phases}

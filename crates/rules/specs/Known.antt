@@ -4,10 +4,10 @@
 --           starred     the list, in 01's order
 --           AllRight    the one claim about the list, proved in proofs/KnownWords.antt
 -- Assumes nothing: these are definitions.
-use mathlib.Core.Path.{_≡_}
-use mathlib.Core.Bool.{Bool, true, not, _&&_}
-use mathlib.Core.List.{List, [], _∷_}
 use Prim.Native.Nat.{ℕ, _≤_}
+use mathlib.Core.Path.{_≡_}
+use mathlib.Core.Bool.{true, not, _&&_}
+use mathlib.Core.List.{List, [], _∷_}
 use lib.Dec.{eqb}
 use lib.IntN.{ℤ, pos, negsuc}
 use lib.ListN.{length, replicate}
@@ -20,14 +20,7 @@ use Rattle.rules.specs.Word.{wordOf, partnerOf}
 use Rattle.rules.specs.Soft.{correlation, softLength}
 use Rattle.rules.specs.Best.{Greatest, Nearest}
 use Rattle.rules.specs.Outcome.{gives, refuses, allowed}
-use Rattle.rules.specs.Refusal.{
-  sendRefusal,
-  pairOutcome,
-  readOutcome,
-  softRefusal,
-  hardRefusal,
-  transformRefusal,
-}
+use Rattle.rules.specs.Refusal.{sendRefusal, pairOutcome, readOutcome, softRefusal, hardRefusal, transformRefusal}
 
 pub data Case : Type 0 where
   -- message g's word, and its partner

@@ -11,8 +11,8 @@
 --           messageOf h m l       the message number of label l
 -- Laws: crate words (the numbers are in label order, and a label number and its parts determine each other).
 -- Assumes nothing: these are definitions.
-use mathlib.Core.List.{List, [], _∷_, _++_}
 use Prim.Native.Nat.{ℕ, zero, suc, _+_, _-_, _/_, _%_, _^_}
+use mathlib.Core.List.{List, [], _∷_, _++_}
 use Rattle.range.specs.Below.{listBelow}
 use Rattle.rules.specs.Shape.{phases, messages}
 

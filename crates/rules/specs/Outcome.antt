@@ -1,14 +1,14 @@
 -- What a call answers, in 01's terms.
--- Defines:  Outcome A               a call gives a value, or refuses with a number of 01's table and the numbers that the
---                                   refusal carries
+-- Defines:  Outcome A               a call gives a value, or refuses with a number of 01's table and the numbers that
+--                                   the refusal carries
 --           allowed                 nothing is refused
 --           refuse k test o         refusal k where the test holds, else o
 --           refuseAt k found more o refusal k with the place found, and more behind it, else o
 -- Assumes nothing: these are definitions.
+use Prim.Native.Nat.{ℕ}
 use mathlib.Core.Bool.{Bool, true, false}
 use mathlib.Core.List.{List, [], _∷_}
 use mathlib.Core.Option.{Option, none, some}
-use Prim.Native.Nat.{ℕ}
 
 pub data Outcome (A : Type 0) : Type 0 where
   gives : A → Outcome A

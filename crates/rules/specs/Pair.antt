@@ -1,15 +1,16 @@
 -- The pair check: 01 "The partner and the pair check".
 -- Words are taken as functions of the place.
 -- Defines:  minus q a b            a - b modulo q, for a and b below q
---           phaseCount h n a u k   how many places i with i + u < n have symbol i minus symbol i + u equal to k modulo 2^h
+--           phaseCount h n a u k   how many places i with i + u < n have symbol i minus symbol i + u equal to k
+--                                  modulo 2^h
 --           pairCount h n a b u k  the same, over both words together
 --           GolayPair h m a b      for each shift u from 1 to N - 1 and each phase k the count for k equals the count
 --                                  for k + 2^(h-1)
 --           golayPair h m a b      the test of that
 -- Law: golayPair-iff in crate pair (the test is the claim).  Assumes nothing: these are definitions.
+use Prim.Native.Nat.{ℕ, suc, _+_, _-_, _%_, _≤_, _<_}
 use mathlib.Core.Path.{_≡_}
 use mathlib.Core.Bool.{Bool}
-use Prim.Native.Nat.{ℕ, suc, _+_, _-_, _%_, _≤_, _<_}
 use lib.Dec.{eqb}
 use Rattle.range.specs.Below.{countBelow, allBelow}
 use Rattle.rules.specs.Shape.{phases, halfTurn, carriers}

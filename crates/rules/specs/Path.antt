@@ -9,11 +9,12 @@
 --           upTo m           1, .., m
 --           paths m          every path of m, in dictionary order
 --           pathAt m n       the path with number n, counted from 0
--- That `paths` lists exactly the lists of `IsPath`, in that order: crate paths.  Assumes nothing: these are definitions.
+-- That `paths` lists exactly the lists of `IsPath`, in that order: crate paths.
+-- Assumes nothing: these are definitions.
+use Prim.Native.Nat.{ℕ, zero, suc, _+_, _<_, _≤_}
 use mathlib.Core.Path.{_≡_}
 use mathlib.Core.Bool.{Bool, true, false, not}
 use mathlib.Core.List.{List, [], _∷_, map, flatMap}
-use Prim.Native.Nat.{ℕ, zero, suc, _+_, _<_, _≤_}
 use lib.Dec.{eqb, ltb}
 use lib.ListN.{length, getD}
 use Rattle.range.specs.Below.{oneIf, listBelow}

@@ -3,8 +3,8 @@
 --           generatorAt m r i    row r of the generator at place i: row 0 all ones, row k the digits x_k
 --           generator m          the rows, each of N zeros and ones
 -- Assumes nothing: these are definitions.
-use mathlib.Core.List.{List}
 use Prim.Native.Nat.{ℕ, zero, suc, _-_, _/_, _%_, _^_}
+use mathlib.Core.List.{List}
 use Rattle.range.specs.Below.{listBelow}
 use Rattle.rules.specs.Shape.{carriers}
 

@@ -7,10 +7,10 @@
 --           transformRefusal m y n   the transform, of two areas, the second n entries long
 -- Where a call gives no more than that it is allowed here, its own promise says what it answers then.
 -- Assumes nothing: these are definitions.
+use Prim.Native.Nat.{ℕ}
 use mathlib.Core.Bool.{Bool, not, _||_}
 use mathlib.Core.List.{List, [], _∷_}
 use mathlib.Core.Option.{Option, none, some}
-use Prim.Native.Nat.{ℕ}
 use lib.IntN.{ℤ}
 use lib.ListN.{length}
 use Rattle.rules.specs.Shape.{inM, carriers}
@@ -18,16 +18,8 @@ use Rattle.rules.specs.Word.{symbolAt}
 use Rattle.rules.specs.Pair.{golayPair}
 use Rattle.rules.specs.Soft.{softLength}
 use Rattle.rules.specs.Outcome.{Outcome, gives, refuses, allowed, refuse, refuseAt}
-use Rattle.rules.specs.Table.{
-  badShape,
-  badLength,
-  shortArea,
-  badSymbol,
-  badMessage,
-  messageWith,
-  octary,
-  badValue,
-}
+use Rattle.rules.specs.Table.{badShape, badLength, shortArea, badSymbol, badMessage, messageWith, octary}
+use Rattle.rules.specs.Table.{badValue}
 
 unfoldable pub sendRefusal : ℕ → ℕ → ℕ → ℕ → Outcome (Unit {0})
 sendRefusal h m n g =
@@ -55,7 +47,8 @@ unfoldable pub readOutcome : ℕ → ℕ → List ℕ → Outcome ℕ
 readOutcome h m w = refuse 1 (badShape h m) (refuseWord h m w (orNoWord (messageWith h m w)))
 
 unfoldable pub softRefusal : ℕ → ℕ → List ℤ → Outcome (Unit {0})
-softRefusal h m ys = refuse 1 (badShape h m) (refuse 6 (octary h) (refuse 2 (badLength (length ys) (softLength h m)) allowed))
+softRefusal h m ys =
+    refuse 1 (badShape h m) (refuse 6 (octary h) (refuse 2 (badLength (length ys) (softLength h m)) allowed))
 
 unfoldable pub hardRefusal : ℕ → ℕ → List ℕ → Outcome (Unit {0})
 hardRefusal h m w = refuse 1 (badShape h m) (refuse 6 (octary h) (refuseWord h m w allowed))

@@ -8,9 +8,9 @@
 --           messageBits h m          w + h (m + 1)
 --           messages h m             how many message numbers there are: 2^(w + h (m + 1))
 -- Assumes nothing: these are definitions.
+use Prim.Native.Nat.{ℕ, _+_, _-_, _*_, _^_}
 use mathlib.Core.Bool.{Bool, _&&_}
 use mathlib.Core.List.{[], _∷_}
-use Prim.Native.Nat.{ℕ, _+_, _-_, _*_, _^_}
 use lib.Dec.{leb}
 use lib.ListN.{getD}
 

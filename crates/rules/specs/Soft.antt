@@ -6,9 +6,9 @@
 --           heard h ys i s         what symbol s adds at place i; for h = 2 the real part stands before the imaginary
 --           correlation h m ys l   the sum over places for label l's word; nothing is divided
 -- Assumes nothing: these are definitions.
+use Prim.Native.Nat.{ℕ, zero, suc, _+_, _*_}
 use mathlib.Core.Bool.{cond}
 use mathlib.Core.List.{List}
-use Prim.Native.Nat.{ℕ, zero, suc, _+_, _*_}
 use lib.Dec.{eqb}
 use lib.IntN.{ℤ, pos, negℤ}
 use lib.ListN.{getD}

@@ -1,13 +1,14 @@
 -- The transform: 01 "The transform by itself".
--- Defines:  accepted z            whether z lies in -32,768..32,767, the range of a transform input; it stands here alone
+-- Defines:  accepted z            whether z lies in -32,768..32,767, the range of a transform input; it stands here
+--                                 alone
 --           odd n                 whether n is odd
 --           shared m i j          how many ones the digits of i and j share
 --           spectrumAt m y j      entry j of the spectrum of y
 --           stage m k y i         what stage k writes at place i, from y
 --           stages m k y          what stands after stages 1, .., k
 -- Assumes nothing: these are definitions.
-use mathlib.Core.Bool.{Bool, _&&_, cond}
 use Prim.Native.Nat.{ℕ, zero, suc, _+_, _-_, _*_, _%_, _^_}
+use mathlib.Core.Bool.{Bool, _&&_, cond}
 use lib.Dec.{eqb}
 use lib.IntN.{ℤ, pos, negsuc, _+ℤ_, _-ℤ_}
 use lib.Signed.{leZ}

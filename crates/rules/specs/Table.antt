@@ -4,10 +4,10 @@
 --           badSymbol, badValue                              3, 7: the first bad place, if there is one
 --           messageWith                                      5: the message whose word the symbols are, if there is one
 -- Assumes nothing: these are definitions.
+use Prim.Native.Nat.{ℕ}
 use mathlib.Core.Bool.{Bool, not}
 use mathlib.Core.List.{List}
 use mathlib.Core.Option.{Option}
-use Prim.Native.Nat.{ℕ}
 use lib.Dec.{eqb, leb, ltb}
 use lib.IntN.{ℤ, pos}
 use lib.ListN.{length, getD}

@@ -1,4 +1,5 @@
--- Words and their partners: 001 Corollary 4 and Theorem 3; 01 "What a logger may send", "The partner and the pair check".
+-- Words and their partners: 001 Corollary 4 and Theorem 3; 01 "What a logger may send", "The partner and the pair
+-- check".
 -- Defines:  links x p          x_p(1) x_p(2) + .. + x_p(m-1) x_p(m), where x k is the digit x_k
 --           formAt h m l i     01's formula for label l at place i, not yet reduced
 --           wordAt h m l i     the symbol at place i of label l's word
@@ -6,8 +7,8 @@
 --           wordOf h m g, partnerOf h m g    the N symbols for message number g
 --           symbolAt w i       the symbol at place i of a list of symbols
 -- Laws: crate words.  Assumes nothing: these are definitions.
-use mathlib.Core.List.{List, [], _∷_}
 use Prim.Native.Nat.{ℕ, suc, _+_, _*_, _%_}
+use mathlib.Core.List.{List, [], _∷_}
 use lib.ListN.{getD}
 use Rattle.range.specs.Below.{sumBelow, listBelow}
 use Rattle.rules.specs.Shape.{phases, halfTurn, carriers}

@@ -1,10 +1,10 @@
 -- What `power` and `takes` give for a shape in range.
--- In order: a power below 64 bits, the phases, the carriers; a test and its negation; the limit of a message number.
--- Assumes nothing.
-use mathlib.Core.Path.{_≡_, refl, sym, _∙_, ap}
-use mathlib.Core.Bool.{Bool, true, false, not, cond, _&&_, Bool·not-not}
+-- In order: a power below 64 bits, the phases, the carriers; a test and its negation; the limit of a message number;
+-- what `takes` says of one.  Assumes nothing.
 use Prim.Native.Nat.{ℕ, _^_, _<_}
 use native.Mathlib.Omega.{arith}
+use mathlib.Core.Path.{_≡_, refl, sym, _∙_, ap}
+use mathlib.Core.Bool.{Bool, true, false, not, cond, _&&_, Bool·not-not}
 use lib.Dec.{leb, ltb}
 use borrow.Author.Tests.{leb-true, leb-false, le-ltb, lt-ltb}
 use Rattle.rules.specs.Shape.{inShape, phases, carriers, messageBits}

@@ -4,9 +4,9 @@
 use kinds::MessageNumber;
 use kinds::Place;
 use kinds::Search;
+ghost use Prim.Native.Nat.{_^_, _≤_};
 ghost use mathlib.Core.Path.{_≡_};
 ghost use mathlib.Core.Bool.{not, cond, _&&_};
-ghost use Prim.Native.Nat.{_^_, _≤_};
 ghost use lib.Dec.{ltb};
 ghost use Rattle.rules.specs.Shape.{pathBits, inShape};
 ghost use Rattle.rules.specs.Label.{labelOf, messageOf};
@@ -19,7 +19,8 @@ pub const GREATEST_H: u32 = 3;
 
 pub const GREATEST_M: u32 = 5;
 
-// What the greatest m makes of the sizes of arrays: the steps of a path, the rows of the generator, the places of a word.
+// What the greatest m makes of the sizes of arrays: the steps of a path, the rows of the generator, the places of a
+// word.
 pub const STEPS: usize = GREATEST_M as usize;
 
 pub const ROWS: usize = STEPS + 1;

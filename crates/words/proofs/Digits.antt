@@ -1,13 +1,13 @@
 -- Laws of the digits of a place: rules' Place. In order: bounds; bits of a power of two, and of a sum with one; the
 -- digits of place 0, of a place with one digit, and of a place with two digits.
 -- Not here: labels (Labels), words (Readings).  Assumes nothing.
-use mathlib.Core.Path.{_≡_, _∙_, ap}
-use mathlib.Core.Logic.{_≢_}
 use Prim.Native.Nat.{ℕ, zero, suc, _+_, _-_, _/_, _%_, _^_, _≤_, _<_}
 use native.Mathlib.Nat.{zero-div, div-self, div-eq-of-lt, pow-suc, mul-mod-left, mul-add-div, add-zero, le-refl}
 use native.Mathlib.Nat.{sub-self}
 use native.Mathlib.Decide.{decLt}
 use native.Mathlib.Omega.{arith}
+use mathlib.Core.Path.{_≡_, _∙_, ap}
+use mathlib.Core.Logic.{_≢_}
 use lib.Pow.{pow-pos, pow-lt, pow-add, pow-mono}
 use Rattle.rules.specs.Place.{digit}
 

@@ -1,11 +1,11 @@
 -- The form as code computes it: rules' Word and Place. In order: the symbols are below 2^h; the form by the rows of the
 -- generator; the partner from the form, with one reduction; the words as lists.
 -- Not here: what a word shows of its label (Readings, Inject).  Assumes nothing.
-use mathlib.Core.Path.{_≡_}
-use Prim.Native.Nat.{ℕ, zero, suc, _+_, _*_, _%_, _<_}
+use Prim.Native.Nat.{ℕ, _+_, _*_, _%_, _<_}
 use native.Mathlib.Nat.{mod-lt, mod-add-mod}
 use native.Mathlib.Numerals.{add-one}
 use native.Mathlib.Omega.{arith}
+use mathlib.Core.Path.{_≡_}
 use lib.ListN.{length, getD}
 use lib.Pow.{pow-pos}
 use Rattle.range.specs.Below.{sumBelow}
@@ -13,7 +13,7 @@ use Rattle.range.proofs.Lists.{length-listBelow, listBelow-at}
 use Rattle.rules.specs.Shape.{phases, halfTurn, carriers}
 use Rattle.rules.specs.Place.{digit, generatorAt}
 use Rattle.rules.specs.Path.{headOf, pathAt}
-use Rattle.rules.specs.Label.{labelPath, coefficient, constant, rowCoefficient, labelOf}
+use Rattle.rules.specs.Label.{labelPath, rowCoefficient, labelOf}
 use Rattle.rules.specs.Word.{links, formAt, wordAt, partnerAt, wordOf, partnerOf}
 
 pub wordAt-lt : (h m l i : ℕ) → wordAt h m l i < phases h

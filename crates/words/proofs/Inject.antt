@@ -2,13 +2,13 @@
 -- with an equal summand; multiples of half the phases; the links at the place with two digits; what two labels with the
 -- same word share, part by part; the law for labels, and for messages.
 -- Not here: what a word shows at single places (Readings), what is known of the paths in use (Used).  Assumes nothing.
+use Prim.Native.Nat.{ℕ, suc, _+_, _-_, _*_, _/_, _%_, _^_, _≤_, _<_, zero-le, suc-le-suc}
+use native.Mathlib.Nat.{add-assoc, mod-add-mod, add-mul-mod-self-right, div-add-mod', suc-mul, mod-lt, mul-div-cancel}
+use native.Mathlib.Nat.{mul-mod-left, mul-comm, eq-of-mul-eq-mul-right, add-zero}
+use native.Mathlib.Omega.{arith}
 use mathlib.Core.Path.{_≡_, refl, sym, _∙_, ap, ap₂}
 use mathlib.Core.Bool.{Bool, true, false, _||_}
 use mathlib.Core.List.{List}
-use Prim.Native.Nat.{ℕ, suc, _+_, _-_, _*_, _/_, _%_, _^_, _≤_, _<_, zero-le, suc-le-suc}
-use native.Mathlib.Nat.{add-assoc, mod-add-mod, add-mul-mod-self-right, div-add-mod', suc-mul, mod-lt, mul-div-cancel}
-use native.Mathlib.Nat.{mul-mod-left, mul-comm, pow-succ', eq-of-mul-eq-mul-right, add-zero}
-use native.Mathlib.Omega.{arith}
 use lib.Arith.{mod-mul}
 use lib.Dec.{T, eqb}
 use lib.ListN.{getD}
@@ -22,11 +22,12 @@ use Rattle.rules.specs.Path.{pathAt}
 use Rattle.rules.specs.Label.{labels, labelPath, coefficient, constant, labelOf, messageOf}
 use Rattle.rules.specs.Word.{links, formAt, wordAt, wordOf}
 use Rattle.rules.specs.Pair.{minus}
+use Rattle.rules.proofs.Range.{phases-half}
 use Rattle.paths.proofs.Pairs.{onPair}
 use Rattle.words.proofs.Digits.{one-lt, twoAt, digit-two-lt, digit-two-first, digit-two-second, digit-two-off}
 use Rattle.words.proofs.Labels.{label-inj, labelPath-lt, messageOf-labelOf, labelOf-lt}
 use Rattle.words.proofs.Forms.{wordOf-at}
-use Rattle.words.proofs.Used.{used-good, used-inj}
+use Rattle.words.proofs.Used.{labelPath-good, used-inj}
 use Rattle.words.proofs.Readings.{Good, links-cong, linear, wordAt-zero, coefficient-read}
 
 -- s and what completes it to a multiple of q
@@ -45,11 +46,6 @@ mod-cancel q x y s p e = complete q x s p ∙ rw e (sym (complete q y s p))
 double-mod : (c x : ℕ) → 0 < c → c * x % (2 * c) ≡ x % 2 * c
 double-mod c x p =
     rw (mul-comm c x) (mod-mul (x * c) (omega arith) p ∙ rw (mul-div-cancel x p, mul-mod-left) (add-zero _))
-
-pub phases-half : (h : ℕ) → 1 ≤ h → phases h ≡ 2 * halfTurn h
-phases-half h b =
-    let e : h ≡ suc (h - 1) = omega arith in
-    ap (λ (n : ℕ). 2 ^ n) e ∙ pow-succ' 2 (h - 1)
 
 half-mod : (h x : ℕ) → 1 ≤ h → halfTurn h * x % phases h ≡ x % 2 * halfTurn h
 half-mod h x b = rw (phases-half h b) (double-mod (halfTurn h) x (pow-pos (h - 1)))
@@ -76,7 +72,8 @@ module _ (m a b : ℕ) (la : 1 ≤ a) (lb : a < b) (lm : b ≤ m) where
 abbrev linked : ℕ → ℕ → ℕ → ℕ → ℕ
 linked h m l i = links (digit m i) (pathAt m (labelPath h m l))
 
-wordAt-parts : (h m l i : ℕ) → wordAt h m l i ≡ (halfTurn h * linked h m l i + (linear h m l i + constant h l)) % phases h
+wordAt-parts : (h m l i : ℕ) →
+    wordAt h m l i ≡ (halfTurn h * linked h m l i + (linear h m l i + constant h l)) % phases h
 unfolding wordAt formAt
 wordAt-parts h m l i = rw add-assoc
 
@@ -86,14 +83,11 @@ module _ (m : ℕ) (range : T (inM m)) where
     same-constant : constant h l ≡ constant h k
     same-constant = sym (wordAt-zero h m l) ∙ same 0 (pow-pos m) ∙ wordAt-zero h m k
 
-    good-label : (n : ℕ) → n < labels h m → Good m (pathAt m (labelPath h m n))
-    good-label n b = used-good m (labelPath h m n) range (labelPath-lt h m n b)
-
     same-coefficient : (j : ℕ) → 1 ≤ j → j ≤ m → coefficient h m l j ≡ coefficient h m k j
     same-coefficient j a b =
-        coefficient-read h m l (good-label l ll) j a b
+        coefficient-read h m l (labelPath-good h m l range ll) j a b
         ∙ ap₂ (minus (phases h)) (same (2 ^ (m - j)) (one-lt m j a b)) (same 0 (pow-pos m))
-        ∙ sym (coefficient-read h m k (good-label k lk) j a b)
+        ∙ sym (coefficient-read h m k (labelPath-good h m k range lk) j a b)
 
     same-linear : (i : ℕ) → linear h m l i ≡ linear h m k i
     same-linear i = sumBelow-cong m _ _ (λ j b. rw (same-coefficient (suc j) (suc-le-suc zero-le) b))
@@ -109,9 +103,9 @@ module _ (m : ℕ) (range : T (inM m)) where
     same-links : (a b : ℕ) → 1 ≤ a → a < b → b ≤ m →
         links (onPair a b) (pathAt m (labelPath h m l)) % 2 ≡ links (onPair a b) (pathAt m (labelPath h m k)) % 2
     same-links a b p q r =
-        ap (λ (n : ℕ). n % 2) (sym (links-onPair m a b p q r (pathAt m (labelPath h m l)) (good-label l ll)))
+        ap (λ (n : ℕ). n % 2) (sym (links-onPair m a b p q r _ (labelPath-good h m l range ll)))
         ∙ same-parity (twoAt m a b) (digit-two-lt m a b p q r)
-        ∙ ap (λ (n : ℕ). n % 2) (links-onPair m a b p q r (pathAt m (labelPath h m k)) (good-label k lk))
+        ∙ ap (λ (n : ℕ). n % 2) (links-onPair m a b p q r _ (labelPath-good h m k range lk))
 
     same-path : labelPath h m l ≡ labelPath h m k
     same-path = used-inj m _ _ range (labelPath-lt h m l ll) (labelPath-lt h m k lk) same-links

@@ -2,12 +2,12 @@
 -- c_1, .., c_m, then the constant, which stands lowest. In order: powers; bounds; the parts of a label without its
 -- lowest digit; the parts determine the label; the number of given parts, and its parts; message numbers.
 -- Not here: label order (Order), words (Readings).  Assumes nothing.
-use mathlib.Core.Path.{_≡_, refl, sym, _∙_}
 use Prim.Native.Nat.{ℕ, zero, suc, _+_, _-_, _*_, _/_, _%_, _^_, _≤_, _<_}
 use native.Mathlib.Nat.{pow-zero, pow-suc, pow-succ', mul-zero, mul-suc, mod-lt, div-div-eq-div-mul, div-add-mod'}
 use native.Mathlib.Nat.{le-refl, div-one, mul-one, mul-comm, suc-mul}
 use native.Mathlib.Decide.{ℕ-discrete}
 use native.Mathlib.Omega.{arith}
+use mathlib.Core.Path.{_≡_, refl, sym, _∙_}
 use lib.Arith.{digits-lt, digits-div, digits-mod}
 use lib.Pow.{pow-pos, pow-add, shr-lt}
 use Rattle.rules.specs.Shape.{phases, pathsInUse, pathBits, messageBits}
@@ -16,9 +16,6 @@ use Rattle.rules.specs.Label.{labels, labelPath, coefficient, constant, labelOf
 pub phases-pow : (h j : ℕ) → phases h ^ j ≡ 2 ^ (h * j)
 phases-pow h zero = rw (pow-zero, mul-zero)
 phases-pow h (suc j) = rw (pow-suc, mul-suc, phases-pow h j) (sym (pow-add 2 (h * j) h))
-
-pub phases-pos : (h : ℕ) → 0 < phases h
-phases-pos h = pow-pos h
 
 pub coefficient-lt : (h m l k : ℕ) → coefficient h m l k < phases h
 unfolding coefficient
@@ -36,7 +33,7 @@ labelPath-lt h m l b = rw phases-pow (shr-lt (pathBits m) (h * (m + 1)) b)
 over-suc : (q l n : ℕ) → l / q ^ suc n ≡ l / q / q ^ n
 over-suc q l n = rw (pow-succ', div-div-eq-div-mul)
 
-over-one : (q l : ℕ) → l / q ^ 1 ≡ l / q
+pub over-one : (q l : ℕ) → l / q ^ 1 ≡ l / q
 over-one q l = rw (over-suc q l 0, pow-zero) (div-one (l / q))
 
 pub labelPath-zero : (h l : ℕ) → labelPath h 0 l ≡ l / phases h

@@ -1,12 +1,12 @@
 -- Label order: labels with smaller numbers come first in dictionary order: rules' Label and Path. In order: a label as
 -- a numeral to base 2^h; dictionary order of lists put together; numerals in order; labels in order.
 -- Not here: the parts of a label (Labels).  Assumes nothing.
-use mathlib.Core.Path.{_≡_, _∙_, ap}
-use mathlib.Core.List.{List, [], _∷_, _++_}
 use Prim.Native.Nat.{ℕ, zero, suc, _+_, _*_, _/_, _%_, _<_}
 use native.Mathlib.Nat.{div-add-mod'}
 use native.Mathlib.Decide.{decLt}
 use native.Mathlib.Omega.{arith}
+use mathlib.Core.Path.{_≡_, _∙_, ap}
+use mathlib.Core.List.{List, [], _∷_, _++_}
 use lib.Pow.{shr-mono}
 use Rattle.range.specs.Below.{listBelow}
 use Rattle.range.proofs.Lists.{listBelow-suc, listBelow-cong}
@@ -27,15 +27,15 @@ coefficients-suc h m l =
     let g : ℕ → ℕ = λ k. coefficient h m (l / phases h) (suc k) in
     listBelow-suc m f ∙ rw (coefficient-last h m l, listBelow-cong m f g (λ k b. coefficient-suc h m l (suc k) b))
 
-labelAt-suc : (h m l : ℕ) → labelParts h (suc m) l ≡ labelParts h m (l / phases h) ++ (constant h l ∷ [])
+labelParts-suc : (h m l : ℕ) → labelParts h (suc m) l ≡ labelParts h m (l / phases h) ++ (constant h l ∷ [])
 unfolding labelParts
-labelAt-suc h m l = rw (labelPath-suc, coefficients-suc h m l)
+labelParts-suc h m l = rw (labelPath-suc, coefficients-suc h m l)
 
-labelAt-numeral : (h m l : ℕ) → labelParts h m l ≡ numeral h (suc m) l
+labelParts-numeral : (h m l : ℕ) → labelParts h m l ≡ numeral h (suc m) l
 unfolding numeral labelParts constant listBelow
-labelAt-numeral h zero l = rw labelPath-zero
-labelAt-numeral h (suc m) l =
-    labelAt-suc h m l ∙ ap (λ (xs : List ℕ). xs ++ (l % phases h ∷ [])) (labelAt-numeral h m (l / phases h))
+labelParts-numeral h zero l = rw labelPath-zero
+labelParts-numeral h (suc m) l =
+    labelParts-suc h m l ∙ ap (λ (xs : List ℕ). xs ++ (l % phases h ∷ [])) (labelParts-numeral h m (l / phases h))
 
 before-front : {xs ys : List ℕ} (us vs : List ℕ) → Before xs ys → Before (xs ++ us) (ys ++ vs)
 before-front us vs (here l) = here l
@@ -66,4 +66,4 @@ numeral-order h (suc n) l k b =
         rw e (before-same (numeral h n (k / phases h)) (here (remainder-lt (phases h) l k b e)))
 
 pub label-order : (h m l k : ℕ) → l < k → Before (labelParts h m l) (labelParts h m k)
-label-order h m l k b = rw (labelAt-numeral h m l, labelAt-numeral h m k) (numeral-order h (suc m) l k b)
+label-order h m l k b = rw (labelParts-numeral h m l, labelParts-numeral h m k) (numeral-order h (suc m) l k b)

@@ -1,18 +1,18 @@
 -- What a word shows of its label: rules' Word. At place 0 it shows the constant, and at the place with digit k alone it
 -- shows c_k more. In order: links, by the digits on the path, and where no two neighbours have digit 1; the paths in
--- question; a sum with one summand; the forms at these places; the words there; the coefficient read back.
+-- question; the forms at these places; the words there; the coefficient read back.
 -- Not here: that the word determines its label (Inject).  Assumes nothing.
+use Prim.Native.Nat.{ℕ, zero, suc, _+_, _-_, _*_, _%_, _^_, _≤_, _<_, suc-le-suc}
+use native.Mathlib.Nat.{le-refl, mul-zero, zero-mul, mul-one, mod-eq-of-lt, mod-add-mod}
+use native.Mathlib.Nat.{add-mod-right}
+use native.Mathlib.Decide.{ℕ-discrete}
+use native.Mathlib.Omega.{arith}
 use mathlib.Core.Path.{_≡_, refl, sym, _∙_}
 use mathlib.Core.Logic.{_≢_}
 use mathlib.Core.List.{List, [], _∷_}
-use Prim.Native.Nat.{ℕ, zero, suc, _+_, _-_, _*_, _%_, _^_, _≤_, _<_, suc-le-suc}
-use native.Mathlib.Nat.{le-refl, mul-zero, zero-mul, mul-one, zero-add, add-zero, mod-eq-of-lt, mod-add-mod}
-use native.Mathlib.Nat.{add-mod-right, not-suc-le-zero}
-use native.Mathlib.Decide.{ℕ-discrete}
-use native.Mathlib.Omega.{arith}
 use lib.ListN.{length, getD}
 use Rattle.range.specs.Below.{sumBelow}
-use Rattle.range.proofs.Sums.{sumBelow-zero}
+use Rattle.range.proofs.Sums.{sumBelow-zero, sumBelow-only}
 use Rattle.rules.specs.Shape.{phases}
 use Rattle.rules.specs.Place.{digit}
 use Rattle.rules.specs.Path.{pathAt}
@@ -61,15 +61,6 @@ pub links-digit-one : (m k : ℕ) (p : List ℕ) → Good m p → k ≤ m → li
 links-digit-one m k p g l = links-zero (digit m (2 ^ (m - k))) p (λ i b.
     one-product m k (getD p i 0) (getD p (suc i) 0) l (g .within i (omega arith)) (g .within (suc i) b) (g .apart i b)
     (ℕ-discrete (getD p i 0) k))
-
-pub sumBelow-only : (n k : ℕ) (f : ℕ → ℕ) → k < n → ((i : ℕ) → i < n → i ≢ k → f i ≡ 0) → sumBelow n f ≡ f k
-unfolding sumBelow
-sumBelow-only zero k f l e = absurd (not-suc-le-zero l)
-sumBelow-only (suc n) zero f l e =
-    rw (sumBelow-zero n (λ i. f (suc i)) (λ i b. e (suc i) (suc-le-suc b) (omega arith))) (add-zero (f 0))
-sumBelow-only (suc n) (suc k) f l e =
-    rw (e 0 (omega arith) (omega arith)) (zero-add _ ∙ sumBelow-only n k (λ i. f (suc i)) (omega arith)
-    (λ i b d. e (suc i) (suc-le-suc b) (omega arith)))
 
 -- the linear part of the form at place i
 abbrev pub linear : ℕ → ℕ → ℕ → ℕ → ℕ

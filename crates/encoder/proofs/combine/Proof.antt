@@ -1,16 +1,16 @@
 -- `encoder::combine` meets its contract: place after place it writes the symbol.
--- Invariant: the first i places hold their symbols, the others are as they were. Measure: the places left.  Assumes nothing.
-use mathlib.Core.Path.{_≡_, refl, sym, _∙_}
-use Prim.Native.Nat.{ℕ, _-_, _≤_}
+-- Invariant: the first i places hold their symbols, the others are as they were. Measure: the places left.
+-- Assumes nothing.
+use Prim.Native.Nat.{_-_, _≤_, _<_}
 use native.Mathlib.Omega.{arith}
+use mathlib.Core.Path.{_≡_, refl}
 use lib.ListN.{length, length-set}
+use denote.Ref.{now}
 use borrow.Author.Needs.{needs}
 use Rattle.range.proofs.Lists.{filled, filled-zero, filled-turn, filled-end}
 use Rattle.encoder.specs.Steps.{symbolOf}
 use Rattle.encoder.proofs.combine.Statement.{statement}
 use Rattle.encoder.proofs.combine.Tie as tie
-use Rattle.encoder.proofs.combine.Reads as reads
-use Rattle.encoder.proofs.combine.Lts as lts
 
 abbrev Inv-loop : tie.InvT-loop
 Inv-loop g p c m q s out₀ i₀ out i =
@@ -19,21 +19,22 @@ Inv-loop g p c m q s out₀ i₀ out i =
 abbrev μ-loop : tie.MeasureT-loop
 μ-loop g p c m q s out₀ i₀ out i = length out₀ - i
 
+-- the function's entry, seen from inside the loop
+abbrev start : tie.In-loop Inv-loop μ-loop → tie.Start Inv-loop μ-loop
+start c = c .before .before .before
+
+-- in a turn i is a place of out
+inside : (c : tie.In-loop Inv-loop μ-loop) → c .before .loop .i < length (now (start c .args .out))
+inside c = omega (arith, c .loop-test .taken, c .before .loop .inv .1)
+
 loop-holds : tie.Need-loop-holds Inv-loop μ-loop
 loop-holds c = (omega arith, refl, filled-zero _ _)
 
 symbol-requires : tie.Need-symbol-requires Inv-loop μ-loop
 symbol-requires c κs =
-    let pre = c .before .before .before .pre in (
-      pre .0,
-      (
-        pre .1 .0,
-        (
-          pre .1 .1 .0,
-          (pre .1 .1 .1 .0, pre .1 .1 .1 .1, pre .1 .1 .1 .2, omega (arith, pre .1 .1 .1 .3, c .loop-test .taken, c .before .loop .inv .1)),
-        ),
-      ),
-    )
+    let pre = start c .pre in
+    let most = pre .1 .1 .1 in
+    (pre .0, (pre .1 .0, (pre .1 .1 .0, (most .0, most .1, most .2, omega (arith, most .3, inside c)))))
 
 slice-write-out : tie.Need-slice-write-out Inv-loop μ-loop
 slice-write-out c = search needs
@@ -42,15 +43,14 @@ add-i : tie.Need-add-i Inv-loop μ-loop
 add-i c = search needs
 
 loop-less : tie.Need-loop-less Inv-loop μ-loop
-loop-less c = omega (arith, c .before .loop-test .taken, c .before .before .loop .inv .1)
+loop-less c = omega (arith, inside (c .before))
 
 loop-again : tie.Need-loop-again Inv-loop μ-loop
 loop-again c =
     let at-loop = c .before .before .loop in (
-      omega (arith, c .before .loop-test .taken, at-loop .inv .1),
+      omega (arith, inside (c .before)),
       simp length-set (at-loop .inv .1),
-      filled-turn (at-loop .i) _ _ (at-loop .out) _ (omega (arith, c .before .loop-test .taken, at-loop .inv .1)) (at-loop .inv .2)
-          (c .symbol .ensures),
+      filled-turn (at-loop .i) _ _ (at-loop .out) _ (inside (c .before)) (at-loop .inv .2) (c .symbol .ensures),
     )
 
 same-length : tie.Need-same-length Inv-loop μ-loop
@@ -59,7 +59,8 @@ same-length c = search needs
 returns : tie.Need-returns Inv-loop μ-loop
 returns c =
     let at-loop = c .before .loop in
-    filled-end _ (at-loop .i) _ _ (at-loop .out) refl (omega (arith, at-loop .inv .0, at-loop .inv .1, c .loop-test .left)) (at-loop .inv .2)
+    filled-end _ (at-loop .i) _ _ (at-loop .out) refl
+    (omega (arith, at-loop .inv .0, at-loop .inv .1, c .loop-test .left)) (at-loop .inv .2)
 
 pub combine-spec : {M : Type 1} → statement M
 combine-spec =

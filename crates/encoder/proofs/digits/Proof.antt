@@ -1,19 +1,16 @@
 -- `encoder::digits` meets its contract: place after place the row takes the digit x_r.
--- Invariant: the first i places hold their digits, the others are as they were. Measure: the places left.  Assumes nothing.
-use mathlib.Core.Path.{_≡_, refl, sym, _∙_, ap}
-use mathlib.Core.List.{List}
+-- Invariant: the first i places hold their digits, the others are as they were. Measure: the places left.
+-- Assumes nothing.
 use Prim.Native.Nat.{ℕ, _-_, _/_, _%_, _^_, _≤_}
 use native.Mathlib.Omega.{arith}
+use mathlib.Core.Path.{_≡_, refl, ap}
 use lib.Dec.{lit≤}
-use lib.ListN.{length, replicate, length-replicate, length-set}
+use lib.ListN.{replicate}
 use borrow.Author.Needs.{needs}
-use Rattle.range.specs.Below.{listBelow}
 use Rattle.range.proofs.Lists.{filled, filled-zero, filled-turn, filled-end}
 use Rattle.rules.specs.Place.{digit}
 use Rattle.encoder.proofs.digits.Statement.{statement}
 use Rattle.encoder.proofs.digits.Tie as tie
-use Rattle.encoder.proofs.digits.Reads as reads
-use Rattle.encoder.proofs.digits.Lts as lts
 
 abbrev Inv-loop : tie.InvT-loop
 Inv-loop m r e row₀ i₀ row i = (i ≤ 32) × (row ≡ filled i (λ k. digit m k r) row₀)
@@ -21,11 +18,15 @@ Inv-loop m r e row₀ i₀ row i = (i ≤ 32) × (row ≡ filled i (λ k. digit 
 abbrev μ-loop : tie.MeasureT-loop
 μ-loop m r e row₀ i₀ row i = 32 - i
 
+-- the row x_r of the function's arguments
+abbrev rowOf : tie.Start Inv-loop μ-loop → ℕ → ℕ
+rowOf c k = digit (c .args .m) k (c .args .r)
+
 less-requires : tie.Need-less-requires Inv-loop μ-loop
 less-requires c κs = search needs
 
 loop-holds : tie.Need-loop-holds Inv-loop μ-loop
-loop-holds c = (lit≤ tt, filled-zero (λ k. digit (c .before .args .m) k (c .before .args .r)) (replicate 32 0))
+loop-holds c = (lit≤ tt, filled-zero (rowOf (c .before)) (replicate 32 0))
 
 shr-row : tie.Need-shr-row Inv-loop μ-loop
 shr-row c = omega (arith, c .before .before .less .ensures)
@@ -45,21 +46,22 @@ loop-less c = search needs
 loop-again : tie.Need-loop-again Inv-loop μ-loop
 unfolding digit
 loop-again c =
-    let args = c .before .before .before .args in
-    let now-i = c .before .loop .i in (
+    let at-loop = c .before in
+    let at-less = at-loop .before in (
       search needs,
-      filled-turn now-i (λ k. digit (args .m) k (args .r)) (replicate 32 0) (c .before .loop .row) _ (c .loop-test .taken)
-          (c .before .loop .inv .1) (ap (λ (e : ℕ). now-i / 2 ^ e % 2) (c .before .before .less .ensures)),
+      filled-turn (at-loop .loop .i) (rowOf (at-less .before)) (replicate 32 0) (at-loop .loop .row) _
+          (c .loop-test .taken) (at-loop .loop .inv .1)
+          (ap (λ (e : ℕ). at-loop .loop .i / 2 ^ e % 2) (at-less .less .ensures)),
     )
 
 returns : tie.Need-returns Inv-loop μ-loop
 returns c =
-    let args = c .before .before .before .args in
     let at-loop = c .before .loop in
-    filled-end 32 (at-loop .i) (λ k. digit (args .m) k (args .r)) (replicate 32 0) (at-loop .row) refl
+    filled-end 32 (at-loop .i) (rowOf (c .before .before .before)) (replicate 32 0) (at-loop .row) refl
     (omega (arith, at-loop .inv .0, c .loop-test .left)) (at-loop .inv .1)
 
 pub digits-spec : {M : Type 1} → statement M
 digits-spec =
     tie.close
-    (tie.spec Inv-loop μ-loop less-requires loop-holds shr-row cast-row array-write-row add-i loop-less loop-again returns)
+    (tie.spec Inv-loop μ-loop less-requires loop-holds shr-row cast-row array-write-row add-i loop-less loop-again
+    returns)

@@ -1,28 +1,31 @@
 -- `encoder::fill` meets its contract: the arrays hold the generator, the path's steps and the label's coefficients.
 -- Assumes nothing.
-use mathlib.Core.Path.{_≡_, _∙_, ap, subst}
 use Prim.Native.Nat.{ℕ, _*_, _/_, _≤_, _<_}
 use native.Mathlib.Nat.{mul-le-mul}
 use native.Mathlib.Omega.{arith}
+use mathlib.Core.Path.{_≡_, _∙_, ap}
 use borrow.Author.Needs.{needs}
 use Rattle.rules.specs.Shape.{greatestH, phases, halfTurn, pathsInUse}
-use Rattle.rules.proofs.Range.{InRange, inShape-range, phases-least, phases-most, carriers-most}
+use Rattle.rules.proofs.Range.{InRange, inShape-range, phases-by-two, phases-least, phases-most, carriers-most}
+use Rattle.shape.proofs.Powers.{power-phases}
 use Rattle.paths.specs.Steps.{pathRow}
 use Rattle.words.proofs.Labels.{labelPath-lt}
-use Rattle.shape.proofs.Powers.{power-phases}
-use Rattle.encoder.proofs.Formula.{Held, held-cells, held-small, held-walk, held-symbols, phases-by-two}
+use Rattle.encoder.proofs.Formula.{Held, held-cells, held-small, held-walk, held-symbols}
 use Rattle.encoder.proofs.fill.Statement.{statement}
 use Rattle.encoder.proofs.fill.Tie as tie
 
 power-requires : tie.Need-power-requires
 power-requires c κs = search needs
 
--- the function's entry, seen from the call of power, and that call, seen from the last before combine
+-- the function's entry, seen from the call of power; that call and the call of split, seen from the last before combine
 abbrev start : tie.After-power → tie.Start
 start c = c .before .before
 
+abbrev at-split : tie.After-steps → tie.After-split
+at-split c = c .before .before .before .before
+
 abbrev at-power : tie.After-steps → tie.After-power
-at-power c = c .before .before .before .before .before
+at-power c = at-split c .before
 
 -- q is 2^h
 ranged : (c : tie.After-power) → InRange (start c .args .h) (start c .args .m)
@@ -48,12 +51,12 @@ steps-requires c κs = search needs
 
 -- the path is in use, and its steps are held
 used : (c : tie.After-steps) → let args = start (at-power c) .args in
-    c .before .before .before .before .split .result .path .0 < pathsInUse (args .m)
+    at-split c .split .result .path .0 < pathsInUse (args .m)
 used c =
     let args = start (at-power c) .args in
     omega (
       arith,
-      c .before .before .before .before .split .ensures .path,
+      at-split c .split .ensures .path,
       labelPath-lt (args .h) (args .m) (args .label) (start (at-power c) .pre .1 .1 .0),
     )
 
@@ -62,30 +65,31 @@ held : (c : tie.After-steps) →
     let args = start (at-power c) .args in
     let q = at-power c .power .result in
     Held (args .h) (args .m) (args .label) (args .lift) (c .before .generator .result) (c .steps .result)
-    (c .before .before .before .before .split .result .c) q (args .lift * (q / 2))
+    (at-split c .split .result .c) q (args .lift * (q / 2))
 held c =
     let args = start (at-power c) .args in
     let range = ranged (at-power c) in
-    let at-split = c .before .before .before .before in
+    let parts = at-split c .split .ensures in
     record {
       range = range;
       used = start (at-power c) .pre .1 .1 .0;
       rows = c .before .generator .ensures;
-      steps = c .steps .ensures (range .m-least) (range .m-most) (used c) ∙ ap (pathRow (args .m)) (at-split .split .ensures .path);
-      coefficients = at-split .split .ensures .rows;
+      steps =
+          c .steps .ensures (range .m-least) (range .m-most) (used c) ∙ ap (pathRow (args .m)) (parts .path);
+      coefficients = parts .rows;
       base = base (at-power c);
       lifted =
           ap (λ (x : ℕ). args .lift * (x / 2)) (base (at-power c))
           ∙ ap (λ (x : ℕ). args .lift * x) (phases-by-two (args .h) (range .h-least));
     }
 
-lift-small : (c : tie.After-steps) → start (at-power c) .args .lift * (at-power c .power .result / 2) ≤ halfTurn greatestH
+lift-small : (c : tie.After-power) → start c .args .lift * (c .power .result / 2) ≤ halfTurn greatestH
 lift-small c =
-    mul-le-mul {n₁ = start (at-power c) .args .lift} {m₁ = at-power c .power .result / 2} {n₂ = 1} {m₂ = halfTurn greatestH}
-    (start (at-power c) .pre .0) (omega (arith, base-most (at-power c)))
+    mul-le-mul {n₁ = start c .args .lift} {m₁ = c .power .result / 2} {n₂ = 1} {m₂ = halfTurn greatestH}
+    (start c .pre .0) (omega (arith, base-most c))
 
 mul-combine : tie.Need-mul-combine
-mul-combine c = omega (arith, lift-small c)
+mul-combine c = omega (arith, lift-small (at-power c))
 
 combine-requires : tie.Need-combine-requires
 combine-requires c κs =
@@ -99,7 +103,7 @@ combine-requires c κs =
           (
             omega (arith, base p, phases-least _ _ (ranged p)),
             base-most p,
-            lift-small (c .before),
+            lift-small p,
             omega (arith, start p .pre .1 .1 .1, carriers-most _ _ (ranged p)),
           ),
         ),
@@ -119,13 +123,5 @@ returns c =
 pub fill-spec : {M : Type 1} → statement M
 fill-spec =
     tie.close
-    (tie.spec
-    power-requires
-    cast-q
-    split-requires
-    generator-requires
-    steps-requires
-    mul-combine
-    combine-requires
-    same-length
-    returns)
+    (tie.spec power-requires cast-q split-requires generator-requires steps-requires mul-combine combine-requires
+    same-length returns)

@@ -1,9 +1,9 @@
 -- `encoder::generator` meets its contract: it starts with rows of ones, and each turn puts the digits into one row.
 -- Invariant: the rows before r are the generator's. Measure: the rows left.  Assumes nothing.
-use mathlib.Core.Path.{_≡_, refl, sym, _∙_}
-use mathlib.Core.List.{List}
 use Prim.Native.Nat.{ℕ, _-_, _≤_}
 use native.Mathlib.Omega.{arith}
+use mathlib.Core.Path.{_≡_, refl, _∙_}
+use mathlib.Core.List.{List}
 use lib.Dec.{lit≤}
 use lib.ListN.{replicate}
 use borrow.Author.Needs.{needs}
@@ -14,8 +14,6 @@ use Rattle.encoder.specs.Steps.{generatorRows}
 use Rattle.encoder.proofs.Matrix.{generator-row}
 use Rattle.encoder.proofs.generator.Statement.{statement}
 use Rattle.encoder.proofs.generator.Tie as tie
-use Rattle.encoder.proofs.generator.Reads as reads
-use Rattle.encoder.proofs.generator.Lts as lts
 
 -- row r of the generator, and the rows of ones that it starts with
 abbrev row : ℕ → ℕ → List ℕ

@@ -1,8 +1,8 @@
 -- `encoder::linear` meets its contract: each turn adds one row.
 -- Invariant: the sum is that of the rows before r. Measure: the rows left.  Assumes nothing.
-use mathlib.Core.Path.{_≡_, refl, sym, _∙_, ap}
-use Prim.Native.Nat.{ℕ, _+_, _-_, _*_, _≤_}
+use Prim.Native.Nat.{ℕ, _-_, _*_, _≤_}
 use native.Mathlib.Omega.{arith}
+use mathlib.Core.Path.{_≡_, refl, _∙_, ap}
 use lib.ListN.{getD}
 use borrow.Author.Needs.{needs}
 use Rattle.range.specs.Below.{sumBelow}
@@ -11,8 +11,6 @@ use Rattle.encoder.specs.Steps.{cell, linearOf}
 use Rattle.encoder.proofs.Bounds.{term-le, terms-le}
 use Rattle.encoder.proofs.linear.Statement.{statement}
 use Rattle.encoder.proofs.linear.Tie as tie
-use Rattle.encoder.proofs.linear.Reads as reads
-use Rattle.encoder.proofs.linear.Lts as lts
 
 abbrev Inv-loop : tie.InvT-loop
 Inv-loop g m i c n sum₀ r₀ sum r = (r ≤ n) × (sum ≡ sumBelow r (λ k. getD c k 0 * cell g k i))
@@ -36,34 +34,47 @@ array-read-sum c = search needs
 at-requires : tie.Need-at-requires Inv-loop μ-loop
 at-requires c κs = search needs
 
--- the term of row r, and that it is small
+-- the coefficient and the term of row r
+abbrev coefficientAt : tie.Start Inv-loop μ-loop → ℕ → ℕ
+coefficientAt c r = getD (c .args .t2) r 0
+
+abbrev termAt : tie.Start Inv-loop μ-loop → ℕ → ℕ
+termAt c r = coefficientAt c r * cell (c .args .g) r (c .args .i)
+
+-- the loop's head, seen from the call of at, and the function's entry, seen from there
+abbrev at-loop : tie.After-at Inv-loop μ-loop → tie.At-loop Inv-loop μ-loop
+at-loop c = c .before .before
+
+abbrev start : tie.At-loop Inv-loop μ-loop → tie.Start Inv-loop μ-loop
+start c = c .before
+
+-- what is added is the term of row r, and that is small
 term : (c : tie.After-at Inv-loop μ-loop) →
-    getD (c .before .before .before .args .t2) (c .before .before .loop .r) 0 * c .at .result
-    ≡ getD (c .before .before .before .args .t2) (c .before .before .loop .r) 0
-    * cell (c .before .before .before .args .g) (c .before .before .loop .r) (c .before .before .before .args .i)
-term c = ap (λ (x : ℕ). getD (c .before .before .before .args .t2) (c .before .before .loop .r) 0 * x) (c .at .ensures)
+    let s = start (at-loop c) in
+    let r = at-loop c .loop .r in coefficientAt s r * c .at .result ≡ termAt s r
+term c = ap (λ (x : ℕ). coefficientAt (start (at-loop c)) (at-loop c .loop .r) * x) (c .at .ensures)
 
 small : (c : tie.After-at Inv-loop μ-loop) →
-    getD (c .before .before .before .args .t2) (c .before .before .loop .r) 0 * c .at .result ≤ 7
+    coefficientAt (start (at-loop c)) (at-loop c .loop .r) * c .at .result ≤ 7
 small c =
-    let start = c .before .before .before in
+    let s = start (at-loop c) in
     omega (
       arith,
       term c,
-      term-le (start .args .m) (start .args .g) (start .pre .0) (start .args .i) (start .pre .1 .1) (start .args .t2) (start .pre .1 .0)
-          (c .before .before .loop .r) (omega (arith, c .before .loop-test .taken)),
+      term-le (s .args .m) (s .args .g) (s .pre .0) (s .args .i) (s .pre .1 .1) (s .args .t2) (s .pre .1 .0)
+          (at-loop c .loop .r) (omega (arith, c .before .loop-test .taken)),
     )
 
-sofar : (c : tie.After-at Inv-loop μ-loop) → c .before .before .loop .sum ≤ 42
+sofar : (c : tie.After-at Inv-loop μ-loop) → at-loop c .loop .sum ≤ 42
 sofar c =
-    let start = c .before .before .before in
+    let s = start (at-loop c) in
     omega (
       arith,
-      c .before .before .loop .inv .1,
+      at-loop c .loop .inv .1,
       c .before .loop-test .taken,
-      start .pre .0 .most,
-      terms-le (start .args .m) (start .args .g) (start .pre .0) (start .args .i) (start .pre .1 .1) (start .args .t2) (start .pre .1 .0)
-          (c .before .before .loop .r) (omega (arith, c .before .loop-test .taken)),
+      s .pre .0 .most,
+      terms-le (s .args .m) (s .args .g) (s .pre .0) (s .args .i) (s .pre .1 .1) (s .args .t2) (s .pre .1 .0)
+          (at-loop c .loop .r) (omega (arith, c .before .loop-test .taken)),
     )
 
 mul-sum-2 : tie.Need-mul-sum-2 Inv-loop μ-loop
@@ -80,28 +91,17 @@ loop-less c = search needs
 
 loop-again : tie.Need-loop-again Inv-loop μ-loop
 loop-again c =
-    (search needs, sumBelow-turn (c .before .before .loop .r) (c .before .before .loop .sum) _ _ (c .before .before .loop .inv .1) (term c))
+    let turn = at-loop c .loop in (search needs, sumBelow-turn (turn .r) (turn .sum) _ _ (turn .inv .1) (term c))
 
 returns : tie.Need-returns Inv-loop μ-loop
 unfolding linearOf
 returns c =
-    let e : c .before .loop .r ≡ c .before .before .args .m + 1 = omega (arith, c .before .loop .inv .0, c .loop-test .left) in
-    c .before .loop .inv .1 ∙ ap (λ (n : ℕ). sumBelow n (λ k. getD (c .before .before .args .t2) k 0 * cell (c .before .before .args .g) k (c .before .before .args .i))) e
+    let s = start (c .before) in
+    let turn = c .before .loop in
+    turn .inv .1 ∙ ap (λ (n : ℕ). sumBelow n (termAt s)) (omega (arith, turn .inv .0, c .loop-test .left))
 
 pub linear-spec : {M : Type 1} → statement M
 linear-spec =
     tie.close
-    (tie.spec
-    Inv-loop
-    μ-loop
-    add-n
-    loop-holds
-    mul-sum
-    array-read-sum
-    at-requires
-    mul-sum-2
-    add-sum
-    add-r
-    loop-less
-    loop-again
-    returns)
+    (tie.spec Inv-loop μ-loop add-n loop-holds mul-sum array-read-sum at-requires mul-sum-2 add-sum add-r loop-less
+    loop-again returns)

@@ -1,21 +1,19 @@
 -- `encoder::split` meets its contract: each turn takes the lowest coefficient that is left and divides it away.
 -- Invariant: the coefficients above r are taken, and rest is what stands above them. Measure: r.  Assumes nothing.
-use mathlib.Core.Path.{_≡_, refl, sym, _∙_, ap}
-use Prim.Native.Nat.{ℕ, _-_, _/_, _%_, _^_, _≤_, _<_}
+use Prim.Native.Nat.{ℕ, _%_, _≤_, _<_}
 use native.Mathlib.Nat.{mod-lt}
 use native.Mathlib.Omega.{arith}
+use mathlib.Core.Path.{_≡_, refl, _∙_}
 use lib.ListN.{replicate}
 use borrow.Author.Needs.{needs}
-use Rattle.rules.specs.Shape.{phases, pathsInUse}
+use Rattle.rules.specs.Shape.{phases}
 use Rattle.rules.specs.Label.{labelPath}
-use Rattle.words.proofs.Labels.{labelPath-lt}
 use Rattle.rules.proofs.Range.{InRange, inShape-range, phases-least, phases-most, pathsInUse-most}
-use Rattle.shape.proofs.Powers.{power-is}
+use Rattle.shape.proofs.Powers.{power-phases}
+use Rattle.words.proofs.Labels.{labelPath-lt}
 use Rattle.encoder.proofs.Divide.{Taken, taken-first, taken-step, taken-path, taken-rows}
 use Rattle.encoder.proofs.split.Statement.{statement}
 use Rattle.encoder.proofs.split.Tie as tie
-use Rattle.encoder.proofs.split.Reads as reads
-use Rattle.encoder.proofs.split.Lts as lts
 
 abbrev Inv-loop : tie.InvT-loop
 Inv-loop h m label q c₀ rest₀ r₀ c rest r = Taken h m label q r rest c
@@ -31,7 +29,7 @@ ranged c = inShape-range _ _ (c .before .pre .0)
 
 -- q is 2^h, from 2 to 8
 base : (c : tie.After-power Inv-loop μ-loop) → c .power .result ≡ phases (c .before .args .h)
-base c = c .power .ensures ∙ power-is (c .before .args .h) (omega (arith, ranged c .h-most))
+base c = c .power .ensures ∙ power-phases (c .before .args .h) (c .before .args .m) (c .before .pre .0)
 
 base-least : (c : tie.After-power Inv-loop μ-loop) → 2 ≤ c .power .result
 base-least c = omega (arith, base c, phases-least _ _ (ranged c))
@@ -39,11 +37,15 @@ base-least c = omega (arith, base c, phases-least _ _ (ranged c))
 base-most : (c : tie.After-power Inv-loop μ-loop) → c .power .result ≤ 8
 base-most c = omega (arith, base c, phases-most _ _ (ranged c))
 
+-- what a division by q leaves is small
+left-lt : (c : tie.After-power Inv-loop μ-loop) (x : ℕ) → x % c .power .result < 8
+left-lt c x = omega (arith, mod-lt x {m = c .power .result} (omega (arith, base-least c)), base-most c)
+
 rem-c : tie.Need-rem-c Inv-loop μ-loop
 rem-c c = omega (arith, base-least c)
 
 cast-c : tie.Need-cast-c Inv-loop μ-loop
-cast-c c = omega (arith, mod-lt (c .before .args .label) {m = c .power .result} (omega (arith, base-least c)), base-most c)
+cast-c c = omega (arith, left-lt c (c .before .args .label))
 
 array-write-c : tie.Need-array-write-c Inv-loop μ-loop
 array-write-c c = search needs
@@ -53,15 +55,14 @@ div-rest c = omega (arith, base-least c)
 
 loop-holds : tie.Need-loop-holds Inv-loop μ-loop
 loop-holds c =
-    taken-first (c .before .args .h) (c .before .args .m) (c .before .args .label) (c .power .result) (replicate 6 0) (base c) refl
+    let args = c .before .args in
+    taken-first (args .h) (args .m) (args .label) (c .power .result) (replicate 6 0) (base c) refl
 
 rem-c-2 : tie.Need-rem-c-2 Inv-loop μ-loop
 rem-c-2 c = omega (arith, base-least (c .before .before))
 
 cast-c-2 : tie.Need-cast-c-2 Inv-loop μ-loop
-cast-c-2 c =
-    let at-power = c .before .before in
-    omega (arith, mod-lt (c .before .loop .rest) {m = at-power .power .result} (omega (arith, base-least at-power)), base-most at-power)
+cast-c-2 c = omega (arith, left-lt (c .before .before) (c .before .loop .rest))
 
 mul-c : tie.Need-mul-c Inv-loop μ-loop
 mul-c c = omega (arith, c .before .loop .inv .within, ranged (c .before .before) .m-most)
@@ -80,41 +81,39 @@ loop-less c = search needs
 
 loop-again : tie.Need-loop-again Inv-loop μ-loop
 loop-again c =
-    taken-step _ _ _ _ (c .before .loop .r) (c .before .loop .rest) (c .before .loop .c) (c .before .loop .inv) (c .loop-test .taken)
+    let at-loop = c .before .loop in
+    taken-step _ _ _ _ (at-loop .r) (at-loop .rest) (at-loop .c) (at-loop .inv) (c .loop-test .taken)
     (ranged (c .before .before) .m-most)
+
+-- the function's entry, seen from past the loop
+abbrev start : tie.After-loop Inv-loop μ-loop → tie.Start Inv-loop μ-loop
+start c = c .before .before .before
 
 -- what is left at the end is the path number
 path-is : (c : tie.After-loop Inv-loop μ-loop) →
-    let args = c .before .before .before .args in c .before .loop .rest ≡ labelPath (args .h) (args .m) (args .label)
+    let args = start c .args in c .before .loop .rest ≡ labelPath (args .h) (args .m) (args .label)
 path-is c = taken-path _ _ _ _ _ _ (c .before .loop .c) (c .before .loop .inv) (omega (arith, c .loop-test .left))
 
 cast-t10 : tie.Need-cast-t10 Inv-loop μ-loop
 cast-t10 c =
-    let args = c .before .before .before .args in
-    omega (arith, path-is c, labelPath-lt (args .h) (args .m) (args .label) (c .before .before .before .pre .1), pathsInUse-most (args .m))
+    let args = start c .args in
+    omega (
+      arith,
+      path-is c,
+      labelPath-lt (args .h) (args .m) (args .label) (start c .pre .1),
+      pathsInUse-most (args .m),
+    )
 
 returns : tie.Need-returns Inv-loop μ-loop
-returns c = record { path = path-is c; rows = taken-rows _ _ _ _ _ _ (c .before .loop .c) (c .before .loop .inv) (omega (arith, c .loop-test .left)) }
+returns c =
+    let at-loop = c .before .loop in
+    record {
+      path = path-is c;
+      rows = taken-rows _ _ _ _ _ _ (at-loop .c) (at-loop .inv) (omega (arith, c .loop-test .left));
+    }
 
 pub split-spec : {M : Type 1} → statement M
 split-spec =
     tie.close
-    (tie.spec
-    Inv-loop
-    μ-loop
-    power-requires
-    rem-c
-    cast-c
-    array-write-c
-    div-rest
-    loop-holds
-    rem-c-2
-    cast-c-2
-    mul-c
-    array-write-c-2
-    div-rest-2
-    sub-r
-    loop-less
-    loop-again
-    cast-t10
-    returns)
+    (tie.spec Inv-loop μ-loop power-requires rem-c cast-c array-write-c div-rest loop-holds rem-c-2 cast-c-2 mul-c
+    array-write-c-2 div-rest-2 sub-r loop-less loop-again cast-t10 returns)

@@ -1,9 +1,9 @@
 -- `encoder::symbol` meets its contract: the sums are small, so nothing wraps before the remainder is taken.
 -- Assumes nothing.
-use mathlib.Core.Path.{_≡_, refl, sym, _∙_, ap}
-use Prim.Native.Nat.{ℕ, _+_, _*_, _/_, _%_, _≤_, _<_}
+use Prim.Native.Nat.{ℕ, _+_, _*_, _/_, _≤_}
 use native.Mathlib.Nat.{mul-le-mul, mod-lt}
 use native.Mathlib.Omega.{arith}
+use mathlib.Core.Path.{_≡_, _∙_, ap}
 use lib.ListN.{getD}
 use borrow.Author.Needs.{needs}
 use Rattle.encoder.specs.Steps.{cell, symbolOf}
@@ -26,47 +26,49 @@ index-requires c κs = search needs
 at-requires : tie.Need-at-requires
 at-requires c κs =
     let pre = c .before .before .before .pre in
-    (omega (arith, c .index .ensures, pre .0 .most, pre .1 .1 .0 .steps 0 (omega (arith, pre .1 .1 .0 .least))), pre .1 .1 .1 .3)
+    let walk = pre .1 .1 .0 in
+    (omega (arith, c .index .ensures, pre .0 .most, walk .steps 0 (omega (arith, walk .least))), pre .1 .1 .1 .3)
+
+-- the calls of links and linear and the function's entry, seen from the last call
+abbrev at-linear : tie.After-at → tie.After-linear
+at-linear c = c .before .before
+
+abbrev at-links : tie.After-at → tie.After-links
+at-links c = at-linear c .before
+
+abbrev start : tie.After-at → tie.Start
+start c = at-links c .before
 
 -- the three parts of the sum, and their bounds
-first-is : (c : tie.After-at) → let start = c .before .before .before .before in
-    c .at .result ≡ cell (start .args .g) (getD (start .args .t2) 0 0) (start .args .i)
-first-is c = let start = c .before .before .before .before in
-    c .at .ensures ∙ ap (λ (r : ℕ). cell (start .args .g) r (start .args .i)) (c .before .index .ensures)
+first-is : (c : tie.After-at) → let args = start c .args in
+    c .at .result ≡ cell (args .g) (getD (args .t2) 0 0) (args .i)
+first-is c =
+    let args = start c .args in
+    c .at .ensures ∙ ap (λ (r : ℕ). cell (args .g) r (args .i)) (c .before .index .ensures)
 
-links-small : (c : tie.After-at) → let start = c .before .before .before .before in
-    start .args .q / 2 * c .before .before .before .links .result ≤ 16
+links-small : (c : tie.After-at) → start c .args .q / 2 * at-links c .links .result ≤ 16
 links-small c =
-    let start = c .before .before .before .before in
-    let a = c .before .before .before .links in
-    let b : a .result ≤ 4 = omega (
-      arith,
-      a .ensures,
-      linksOf-le (start .args .m) (start .args .g) (start .pre .0) (start .args .i) (start .pre .1 .1 .1 .3) (start .args .t2)
-          (start .pre .1 .1 .0),
-    ) in
-    mul-le-mul {n₁ = start .args .q / 2} {m₁ = a .result} {n₂ = 4} {m₂ = 4} (omega (arith, start .pre .1 .1 .1 .1)) b
+    let args = start c .args in
+    let pre = start c .pre in
+    let most = pre .1 .1 .1 in
+    let bound = linksOf-le (args .m) (args .g) (pre .0) (args .i) (most .3) (args .t2) (pre .1 .1 .0) in
+    mul-le-mul {n₁ = args .q / 2} {m₁ = at-links c .links .result} {n₂ = 4} {m₂ = 4}
+    (omega (arith, most .1)) (omega (arith, at-links c .links .ensures, bound))
 
-linear-small : (c : tie.After-at) → c .before .before .linear .result ≤ 42
+linear-small : (c : tie.After-at) → at-linear c .linear .result ≤ 42
 linear-small c =
-    let start = c .before .before .before .before in
-    omega (
-      arith,
-      c .before .before .linear .ensures,
-      linearOf-le (start .args .m) (start .args .g) (start .pre .0) (start .args .i) (start .pre .1 .1 .1 .3) (start .args .c)
-          (start .pre .1 .0),
-    )
+    let args = start c .args in
+    let pre = start c .pre in
+    let bound = linearOf-le (args .m) (args .g) (pre .0) (args .i) (pre .1 .1 .1 .3) (args .c) (pre .1 .0) in
+    omega (arith, at-linear c .linear .ensures, bound)
 
-first-small : (c : tie.After-at) → let start = c .before .before .before .before in start .args .s * c .at .result ≤ 4
+first-small : (c : tie.After-at) → start c .args .s * c .at .result ≤ 4
 first-small c =
-    let start = c .before .before .before .before in
-    let b : c .at .result ≤ 1 = omega (
-      arith,
-      first-is c,
-      first-le (start .args .m) (start .args .g) (start .pre .0) (start .args .i) (start .pre .1 .1 .1 .3) (start .args .t2)
-          (start .pre .1 .1 .0),
-    ) in
-    mul-le-mul {n₁ = start .args .s} {m₁ = c .at .result} {n₂ = 4} {m₂ = 1} (start .pre .1 .1 .1 .2) b
+    let args = start c .args in
+    let pre = start c .pre in
+    let most = pre .1 .1 .1 in
+    let bound = first-le (args .m) (args .g) (pre .0) (args .i) (most .3) (args .t2) (pre .1 .1 .0) in
+    mul-le-mul {n₁ = args .s} {m₁ = c .at .result} {n₂ = 4} {m₂ = 1} (most .2) (omega (arith, first-is c, bound))
 
 mul-result : tie.Need-mul-result
 mul-result c = omega (arith, links-small c)
@@ -85,14 +87,10 @@ rem-result c = search needs
 
 cast-result : tie.Need-cast-result
 cast-result c =
-    let start = c .before .before .before .before in
-    omega (
-      arith,
-      mod-lt
-          (start .args .q / 2 * c .before .before .before .links .result + c .before .before .linear .result + start .args .s * c .at .result)
-          {m = start .args .q} (omega (arith, start .pre .1 .1 .1 .0)),
-      start .pre .1 .1 .1 .1,
-    )
+    let args = start c .args in
+    let most = start c .pre .1 .1 .1 in
+    let sum = args .q / 2 * at-links c .links .result + at-linear c .linear .result + args .s * c .at .result in
+    omega (arith, mod-lt sum {m = args .q} (omega (arith, most .0)), most .1)
 
 returns : tie.Need-returns
 unfolding symbolOf
@@ -101,16 +99,5 @@ returns c = rw (c .before .before .before .links .ensures, c .before .before .li
 pub symbol-spec : {M : Type 1} → statement M
 symbol-spec =
     tie.close
-    (tie.spec
-    links-requires
-    linear-requires
-    array-read-index
-    index-requires
-    at-requires
-    mul-result
-    add-result
-    mul-result-2
-    add-result-2
-    rem-result
-    cast-result
-    returns)
+    (tie.spec links-requires linear-requires array-read-index index-requires at-requires mul-result add-result
+    mul-result-2 add-result-2 rem-result cast-result returns)

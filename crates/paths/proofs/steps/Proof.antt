@@ -1,8 +1,8 @@
 -- `paths::steps` meets its contract: the constants are the table of the paths in use, which antt computes and compares.
 -- Assumes nothing.
-use mathlib.Core.List.{flatMap}
 use native.Mathlib.Nat.{not-le-of-lt}
 use native.Mathlib.Omega.{arith}
+use mathlib.Core.List.{flatMap}
 use lib.Pow.{pow-pos}
 use borrow.Author.Needs.{needs}
 use Rattle.range.specs.Below.{sumBelow, listBelow, rowsBelow}
@@ -12,8 +12,6 @@ use Rattle.paths.specs.Steps.{pathRow}
 use Rattle.paths.proofs.PathTable.{table, starts, start-lt, table-at}
 use Rattle.paths.proofs.steps.Statement.{statement}
 use Rattle.paths.proofs.steps.Tie as tie
-use Rattle.paths.proofs.steps.Reads as reads
-use Rattle.paths.proofs.steps.Lts as lts
 
 returns : tie.Need-returns
 returns c least _ _ = absurd (not-le-of-lt (c .if1 .taken) least)
@@ -36,11 +34,11 @@ cast-at c = search needs
 add-at : tie.Need-add-at
 unfolding starts sumBelow listBelow pathBits
 add-at c =
-    let start = c .before .before .before in
+    let m = c .before .before .before .args .m in
     omega (
       arith,
       c .struct-known .given,
-      start-lt (start .args .m) 0 (c .before .before .if1 .left) (c .before .if2 .left) (pow-pos (pathBits (start .args .m))),
+      start-lt m 0 (c .before .before .if1 .left) (c .before .if2 .left) (pow-pos (pathBits m)),
     )
 
 mul-result : tie.Need-mul-result
@@ -60,15 +58,5 @@ returns-4 c least most used = absurd (not-le-of-lt (start-lt _ _ least most used
 pub steps-spec : {M : Type 1} → statement M
 steps-spec =
     tie.close
-    (tie.spec
-    returns
-    returns-2
-    sub-first
-    mul-first
-    array-read-first
-    cast-at
-    add-at
-    mul-result
-    array-copy-out-result
-    returns-3
-    returns-4)
+    (tie.spec returns returns-2 sub-first mul-first array-read-first cast-at add-at mul-result array-copy-out-result
+    returns-3 returns-4)

@@ -1,14 +1,8 @@
 -- `reader::compare` meets its contract: encode writes the message's word to the buffer, and the two lists are compared.
 -- Assumes nothing.
-use mathlib.Core.Path.{_≡_, refl, sym, _∙_, ap}
-use mathlib.Core.Bool.{true}
-use mathlib.Core.List.{List}
-use Prim.Native.Nat.{ℕ}
-use lib.ListN.{length}
-use denote.Ref.{now}
+use mathlib.Core.Path.{sym, _∙_}
 use borrow.Author.Needs.{needs}
 use borrow.Author.Tests.{lt-leb}
-use Rattle.rules.specs.Word.{wordOf}
 use Rattle.encoder.proofs.SentLaws.{send-allowed, sent-word}
 use Rattle.reader.proofs.compare.Statement.{statement}
 use Rattle.reader.proofs.compare.Tie as tie
@@ -22,11 +16,19 @@ same-requires c κs = search needs
 same-length : tie.Need-same-length
 same-length c = search needs
 
+-- the call of encode, seen from the comparison, and the function's entry, seen from there
+abbrev at-encode : tie.After-same → tie.After-encode
+at-encode c = c .before .before .before .before
+
+abbrev start : tie.After-encode → tie.Start
+start c = c .before .before .before .before
+
 returns : tie.Need-returns
 returns c =
-    let start = c .before .before .before .before .before .before .before .before in
-    let e = sent-word (c .before .before .before .before .encode .ensures)
-    (send-allowed (start .args .h) (start .args .m) _ _ (start .pre .0 .shape) (start .pre .1 .1 ∙ start .pre .0 .long) (lt-leb _ _ (start .pre .1 .0))) in
+    let args = start (at-encode c) .args in
+    let pre = start (at-encode c) .pre in
+    let e = sent-word (at-encode c .encode .ensures)
+    (send-allowed (args .h) (args .m) _ _ (pre .0 .shape) (pre .1 .1 ∙ pre .0 .long) (lt-leb _ _ (pre .1 .0))) in
     (λ t. sym e ∙ c .same .ensures .0 t, λ q. c .same .ensures .1 (e ∙ q))
 
 pub compare-spec : {M : Type 1} → statement M

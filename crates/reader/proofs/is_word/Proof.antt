@@ -1,8 +1,8 @@
 -- `reader::is_word` meets its contract: the word fits the buffer, whose first places are lent.
 -- Assumes nothing.
-use mathlib.Core.Path.{_≡_, sym}
 use Prim.Native.Nat.{_≤_}
 use native.Mathlib.Omega.{arith}
+use mathlib.Core.Path.{sym}
 use lib.ListN.{length, replicate}
 use lib.Seq.{length-take-le}
 use denote.Ref.{now}
@@ -13,8 +13,9 @@ use Rattle.reader.proofs.is_word.Tie as tie
 
 fits : (c : tie.After-shared-slice-known) → length (now (c .before .args .word)) ≤ 32
 fits c =
-    let start = c .before in
-    omega (arith, start .pre .0 .long, carriers-most (start .args .h) (start .args .m) (inShape-range _ _ (start .pre .0 .shape)))
+    let args = c .before .args in
+    let word = c .before .pre .0 in
+    omega (arith, word .long, carriers-most (args .h) (args .m) (inShape-range _ _ (word .shape)))
 
 array-borrow-prefix-buffer : tie.Need-array-borrow-prefix-buffer
 array-borrow-prefix-buffer c = fits c

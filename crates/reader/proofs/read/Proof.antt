@@ -1,9 +1,9 @@
 -- `reader::read` meets its contract: each test refuses by the table, in its order, and the search answers what is left.
 -- Assumes nothing.
+use Prim.Native.Nat.{ℕ}
 use mathlib.Core.Path.{_≡_, sym, _∙_, ap}
 use mathlib.Core.Bool.{true}
 use mathlib.Core.Option.{none}
-use Prim.Native.Nat.{ℕ}
 use lib.ListN.{length}
 use denote.Ref.{now}
 use borrow.Author.Needs.{needs}
@@ -75,14 +75,18 @@ returns-3 c =
 enum-told : tie.Need-enum-told
 enum-told c = search needs
 
+-- the second test, seen from past the match
+abbrev length-test : tie.After-enum-told → tie.Else2
+length-test c = c .before .before .before .before
+
 -- past the match the search has found nothing
-good : (c : tie.After-enum-told) → let at = start (shape-test (c .before .before .before .before)) in
+good : (c : tie.After-enum-told) → let at = start (shape-test (length-test c)) in
     none ≡ firstBad (phases (at .args .h)) (now (at .args .word))
 good c = sym (ap searchTold (c .enum-told .given .1)) ∙ searched (c .before .before)
 
 search-requires : tie.Need-search-requires
 search-requires c κs =
-    let at-length = c .before .before .before .before in
+    let at-length = length-test c in
     record {
       shape = shaped (shape-test at-length);
       long = long at-length;
@@ -91,21 +95,11 @@ search-requires c κs =
 
 returns-4 : tie.Need-returns-4
 returns-4 c =
-    let at-length = c .before .before .before .before .before in
+    let at-length = length-test (c .before) in
     c .search .ensures ∙ read-search _ _ _ (shaped (shape-test at-length)) (long at-length) (good (c .before))
 
 pub read-spec : {M : Type 1} → statement M
 read-spec =
     tie.close
-    (tie.spec
-    in-shape-requires
-    returns
-    power-requires
-    returns-2
-    power-requires-2
-    first-bad-requires
-    enum-known-place
-    returns-3
-    enum-told
-    search-requires
-    returns-4)
+    (tie.spec in-shape-requires returns power-requires returns-2 power-requires-2 first-bad-requires enum-known-place
+    returns-3 enum-told search-requires returns-4)

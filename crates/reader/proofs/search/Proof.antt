@@ -1,12 +1,12 @@
 -- `reader::search` meets its contract: the word determines its message, so the first path that fits gives the message,
 -- and where none fits no message has the word.
--- Invariant: label is the shown label with path n, and no path before n fits. Measure: the paths left.  Assumes nothing.
-use mathlib.Core.Path.{_≡_, sym, _∙_, ap, ap₂, subst}
-use mathlib.Core.Bool.{true, false, false≢true}
-use mathlib.Core.Option.{Option, some}
-use Prim.Native.Nat.{ℕ, _+_, _-_, _*_, _^_, _≤_, _<_}
-use native.Mathlib.Nat.{lt-of-lt-of-le}
+-- Invariant: label is the shown label with path n, and no path before n fits. Measure: the paths left.
+-- Assumes nothing.
+use Prim.Native.Nat.{ℕ, _+_, _-_, _^_, _≤_, _<_}
 use native.Mathlib.Omega.{arith}
+use mathlib.Core.Path.{_≡_, sym, _∙_, ap, ap₂, subst}
+use mathlib.Core.Bool.{false≢true}
+use mathlib.Core.Option.{some}
 use lib.Pow.{pow-mono}
 use denote.Ref.{now}
 use borrow.Author.Count.{below-none, below-more}
@@ -16,15 +16,14 @@ use Rattle.rules.specs.Label.{labels, messageOf}
 use Rattle.rules.specs.Word.{wordOf}
 use Rattle.rules.specs.Table.{messageWith}
 use Rattle.rules.specs.Refusal.{orNoWord}
-use Rattle.words.proofs.Labels.{phases-pow, messageOf-lt}
 use Rattle.rules.proofs.Range.{InRange, inShape-range, pathBits-le, coefficientBits-le, messageBits-le}
 use Rattle.shape.proofs.Powers.{power-is}
-use Rattle.reader.specs.Shown.{lowOf, labelWith}
-use Rattle.reader.proofs.ShownLaws.{labelWith-zero, labelWith-next, labelWith-lt, messageWith-some, messageWith-none}
+use Rattle.words.proofs.Labels.{phases-pow, messageOf-lt}
+use Rattle.reader.specs.Shown.{labelWith}
+use Rattle.reader.proofs.ShownLaws.{labelWith-zero, labelWith-next, labelWith-lt, messageWith-some}
+use Rattle.reader.proofs.ShownLaws.{messageWith-none}
 use Rattle.reader.proofs.search.Statement.{statement}
 use Rattle.reader.proofs.search.Tie as tie
-use Rattle.reader.proofs.search.Reads as reads
-use Rattle.reader.proofs.search.Lts as lts
 
 abbrev Inv-loop : tie.InvT-loop
 Inv-loop h m word step uses label₀ n₀ label n =
@@ -34,6 +33,16 @@ Inv-loop h m word step uses label₀ n₀ label n =
 
 abbrev μ-loop : tie.MeasureT-loop
 μ-loop h m word step uses label₀ n₀ label n = uses - n
+
+-- the two calls of power and the function's entry, seen from the loop's head
+abbrev at-uses : tie.At-loop Inv-loop μ-loop → tie.After-power2 Inv-loop μ-loop
+at-uses c = c .before .before
+
+abbrev at-step : tie.At-loop Inv-loop μ-loop → tie.After-power Inv-loop μ-loop
+at-step c = at-uses c .before .before
+
+abbrev start : tie.At-loop Inv-loop μ-loop → tie.Start Inv-loop μ-loop
+start c = at-step c .before .before
 
 ranged : (c : tie.After-shared-slice-known Inv-loop μ-loop) → InRange (c .before .args .h) (c .before .args .m)
 ranged c = inShape-range _ _ (c .before .pre .shape)
@@ -57,17 +66,18 @@ low-requires : tie.Need-low-requires Inv-loop μ-loop
 low-requires c κs = search needs
 
 -- the step from one path to the next, and the number of paths in use
-step-is : (c : tie.After-power Inv-loop μ-loop) → let args = c .before .before .args in c .power .result ≡ phases (args .h) ^ (args .m + 1)
+step-is : (c : tie.After-power Inv-loop μ-loop) → let args = c .before .before .args in
+    c .power .result ≡ phases (args .h) ^ (args .m + 1)
 step-is c =
     let args = c .before .before .args in
     c .power .ensures ∙ power-is _ (omega (arith, coefficientBits-le (args .h) (args .m) (ranged (c .before))))
     ∙ sym (phases-pow (args .h) (args .m + 1))
 
-uses-is : (c : tie.After-power2 Inv-loop μ-loop) → c .power2 .result ≡ pathsInUse (c .before .before .before .before .args .m)
+uses-is : (c : tie.At-loop Inv-loop μ-loop) → at-uses c .power2 .result ≡ pathsInUse (start c .args .m)
 uses-is c =
-    let m = c .before .before .before .before .args .m in
-    c .power2 .ensures ∙ power-is _ (omega (arith, c .before .path-bits .ensures, pathBits-le m))
-    ∙ ap (λ (e : ℕ). 2 ^ e) (c .before .path-bits .ensures)
+    let bits = at-uses c .before .path-bits .ensures in
+    at-uses c .power2 .ensures ∙ power-is _ (omega (arith, bits, pathBits-le (start c .args .m)))
+    ∙ ap (λ (e : ℕ). 2 ^ e) bits
 
 loop-holds : tie.Need-loop-holds Inv-loop μ-loop
 loop-holds c = (search needs, c .low .ensures ∙ labelWith-zero _ _ _, below-none _)
@@ -75,51 +85,66 @@ loop-holds c = (search needs, c .low .ensures ∙ labelWith-zero _ _ _, below-no
 message-of-requires : tie.Need-message-of-requires Inv-loop μ-loop
 message-of-requires c κs = search needs
 
--- in a turn the path is in use, and the message number is that of the shown label
-label-lt : (c : tie.In-loop Inv-loop μ-loop) → let start = c .before .before .before .before .before .before .before in
-    labelWith (start .args .h) (start .args .m) (now (start .args .word)) (c .before .loop .n) < labels (start .args .h) (start .args .m)
-label-lt c =
-    let start = c .before .before .before .before .before .before .before in
-    labelWith-lt (start .args .h) (start .args .m) (now (start .args .word)) (start .pre) (c .before .loop .n)
-    (omega (arith, c .loop-test .taken, uses-is (c .before .before .before)))
+-- the label that is tried with path n
+abbrev labelAt : tie.At-loop Inv-loop μ-loop → ℕ
+labelAt c = labelWith (start c .args .h) (start c .args .m) (now (start c .args .word)) (c .loop .n)
 
-message-is : (c : tie.After-message-of Inv-loop μ-loop) → let start = c .before .before .before .before .before .before .before .before in
-    c .message-of .result .0 ≡ messageOf (start .args .h) (start .args .m)
-    (labelWith (start .args .h) (start .args .m) (now (start .args .word)) (c .before .before .loop .n))
+-- in a turn the path is in use, so the label is one of the shape
+label-lt : (c : tie.In-loop Inv-loop μ-loop) → let args = start (c .before) .args in
+    labelAt (c .before) < labels (args .h) (args .m)
+label-lt c =
+    let s = start (c .before) in
+    labelWith-lt (s .args .h) (s .args .m) (now (s .args .word)) (s .pre) (c .before .loop .n)
+    (omega (arith, c .loop-test .taken, uses-is (c .before)))
+
+-- and the message is that of the shown label
+message-is : (c : tie.After-message-of Inv-loop μ-loop) → let args = start (c .before .before) .args in
+    c .message-of .result .0 ≡ messageOf (args .h) (args .m) (labelAt (c .before .before))
 message-is c = c .message-of .ensures ∙ ap (messageOf _ _) (c .before .before .loop .inv .1)
 
-is-word-requires : tie.Need-is-word-requires Inv-loop μ-loop
-is-word-requires c κs =
-    let start = c .before .before .before .before .before .before .before .before in (
-      start .pre,
-      subst (λ (g : ℕ). g < 2 ^ messageBits (start .args .h) (start .args .m)) (sym (message-is c))
-          (messageOf-lt (start .args .h) (start .args .m) _ (label-lt (c .before))),
-    )
+message-lt : (c : tie.After-message-of Inv-loop μ-loop) → let args = start (c .before .before) .args in
+    c .message-of .result .0 < 2 ^ messageBits (args .h) (args .m)
+message-lt c =
+    let args = start (c .before .before) .args in
+    subst (λ (g : ℕ). g < 2 ^ messageBits (args .h) (args .m)) (sym (message-is c))
+    (messageOf-lt (args .h) (args .m) _ (label-lt (c .before)))
 
--- what a fit and a miss tell
-fits : (c : tie.Then1 Inv-loop μ-loop) → let start = c .before .before .before .before .before .before .before .before .before .before in
-    messageWith (start .args .h) (start .args .m) (now (start .args .word)) ≡ some (c .before .before .message-of .result .0)
+is-word-requires : tie.Need-is-word-requires Inv-loop μ-loop
+is-word-requires c κs = (start (c .before .before) .pre, message-lt c)
+
+-- the message and the loop's head, seen from past the test of a word
+abbrev at-message : tie.After-is-word Inv-loop μ-loop → tie.After-message-of Inv-loop μ-loop
+at-message c = c .before
+
+abbrev at-loop : tie.After-is-word Inv-loop μ-loop → tie.At-loop Inv-loop μ-loop
+at-loop c = at-message c .before .before
+
+-- what a fit tells
+fits : (c : tie.Then1 Inv-loop μ-loop) → let args = start (at-loop (c .before)) .args in
+    messageWith (args .h) (args .m) (now (args .word)) ≡ some (at-message (c .before) .message-of .result .0)
 fits c =
-    let at-message = c .before .before in
-    let start = at-message .before .before .before .before .before .before .before .before in
-    messageWith-some (start .args .h) (start .args .m) (now (start .args .word)) (start .pre) (at-message .message-of .result .0)
-    (subst (λ (g : ℕ). g < 2 ^ messageBits (start .args .h) (start .args .m)) (sym (message-is at-message))
-    (messageOf-lt (start .args .h) (start .args .m) _ (label-lt (at-message .before))))
+    let s = start (at-loop (c .before)) in
+    messageWith-some (s .args .h) (s .args .m) (now (s .args .word)) (s .pre) _ (message-lt (at-message (c .before)))
     (c .before .is-word .ensures .0 (c .if1 .taken))
 
 returns : tie.Need-returns Inv-loop μ-loop
 returns c = sym (ap orNoWord (fits c))
 
+-- the step is small
+step-le : (c : tie.After-power Inv-loop μ-loop) → c .power .result ≤ 2 ^ 18
+step-le c =
+    let args = c .before .before .args in
+    subst (λ (x : ℕ). x ≤ 2 ^ 18) (sym (step-is c ∙ phases-pow (args .h) (args .m + 1)))
+    (pow-mono (coefficientBits-le (args .h) (args .m) (ranged (c .before))))
+
 add-label : tie.Need-add-label Inv-loop μ-loop
 add-label c =
-    let in-loop = c .before .before .before in
-    let at-power = in-loop .before .before .before .before .before in
-    let args = at-power .before .before .args in
-    let bits : labels (args .h) (args .m) ≤ 2 ^ 23 = pow-mono (messageBits-le (args .h) (args .m) (ranged (at-power .before))) in
-    let step : at-power .power .result ≤ 2 ^ 18
-    = subst (λ (x : ℕ). x ≤ 2 ^ 18) (sym (step-is at-power ∙ phases-pow (args .h) (args .m + 1)))
-    (pow-mono (coefficientBits-le (args .h) (args .m) (ranged (at-power .before)))) in
-    omega (arith, in-loop .before .loop .inv .1, label-lt in-loop, bits, step)
+    let turn = at-message (c .before) .before in
+    let step = at-step (turn .before) in
+    let args = step .before .before .args in
+    let bits : labels (args .h) (args .m) ≤ 2 ^ 23
+    = pow-mono (messageBits-le (args .h) (args .m) (ranged (step .before))) in
+    omega (arith, turn .before .loop .inv .1, label-lt turn, bits, step-le step)
 
 add-n : tie.Need-add-n Inv-loop μ-loop
 add-n c = search needs
@@ -127,43 +152,31 @@ add-n c = search needs
 loop-less : tie.Need-loop-less Inv-loop μ-loop
 loop-less c = search needs
 
+-- what a miss tells
+misses : (c : tie.Else1 Inv-loop μ-loop) → let args = start (at-loop (c .before)) .args in
+    wordOf (args .h) (args .m) (messageOf (args .h) (args .m) (labelAt (at-loop (c .before)))) ≡ now (args .word) → ⊥
+misses c e =
+    let same = ap (wordOf _ _) (message-is (at-message (c .before))) ∙ e in
+    false≢true (sym (c .if1 .left) ∙ c .before .is-word .ensures .1 same)
+
 loop-again : tie.Need-loop-again Inv-loop μ-loop
 loop-again c =
-    let at-message = c .before .before in
-    let at-loop = at-message .before .before in
-    let at-power = at-loop .before .before .before .before in (
-      omega (arith, at-message .before .loop-test .taken),
-      ap₂ (λ (x y : ℕ). x + y) (at-loop .loop .inv .1) (step-is at-power) ∙ labelWith-next _ _ _ _,
-      below-more _ _ (at-loop .loop .inv .2)
-          (λ e. false≢true (sym (c .if1 .left) ∙ c .before .is-word .ensures .1 (ap (wordOf _ _) (message-is at-message) ∙ e))),
+    let head = at-loop (c .before) in (
+      omega (arith, at-message (c .before) .before .loop-test .taken),
+      ap₂ (λ (x y : ℕ). x + y) (head .loop .inv .1) (step-is (at-step head)) ∙ labelWith-next _ _ _ _,
+      below-more _ _ (head .loop .inv .2) (misses c),
     )
 
 returns-2 : tie.Need-returns-2 Inv-loop μ-loop
 returns-2 c =
-    let start = c .before .before .before .before .before .before .before in
+    let s = start (c .before) in
     sym
     (ap orNoWord
-    (messageWith-none (start .args .h) (start .args .m) (now (start .args .word)) (start .pre)
-    (λ n b. c .before .loop .inv .2 n (omega (arith, c .loop-test .left, uses-is (c .before .before .before))))))
+    (messageWith-none (s .args .h) (s .args .m) (now (s .args .word)) (s .pre)
+    (λ n b. c .before .loop .inv .2 n (omega (arith, c .loop-test .left, uses-is (c .before))))))
 
 pub search-spec : {M : Type 1} → statement M
 search-spec =
     tie.close
-    (tie.spec
-    Inv-loop
-    μ-loop
-    add-power
-    mul-power
-    power-requires
-    path-bits-requires
-    power-requires-2
-    low-requires
-    loop-holds
-    message-of-requires
-    is-word-requires
-    returns
-    add-label
-    add-n
-    loop-less
-    loop-again
-    returns-2)
+    (tie.spec Inv-loop μ-loop add-power mul-power power-requires path-bits-requires power-requires-2 low-requires
+    loop-holds message-of-requires is-word-requires returns add-label add-n loop-less loop-again returns-2)

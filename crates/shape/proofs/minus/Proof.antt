@@ -28,17 +28,11 @@ rem-result c = search needs
 
 returns-4 : tie.Need-returns-4
 unfolding minus
-returns-4 c _ _ _ = rw (c .before .before .before .before .wide .ensures, c .before .before .before .wide2 .ensures)
+returns-4 c _ _ _ =
+    let at-wide2 = c .before .before .before in
+    rw (at-wide2 .before .wide .ensures, at-wide2 .wide2 .ensures)
 
 pub minus-spec : {M : Type 1} → statement M
 minus-spec =
     tie.close
-    (tie.spec
-    wide-requires
-    wide-requires-2
-    returns
-    returns-2
-    returns-3
-    add-result
-    rem-result
-    returns-4)
+    (tie.spec wide-requires wide-requires-2 returns returns-2 returns-3 add-result rem-result returns-4)
