@@ -22,6 +22,7 @@ use Rattle.paths.proofs.Members.{isPath-in}
 use Rattle.words.proofs.Labels.{labelPath-lt, coefficient-lt, constant-lt}
 use Rattle.words.proofs.Forms.{formAt-rows, partnerAt-form}
 use Rattle.words.proofs.Used.{used-isPath}
+use Rattle.words.proofs.Partners.{headOf-at}
 use Rattle.encoder.specs.Steps.{generatorRows, cell, linearOf, linksOf, symbolOf, liftedAt, Cells, Small, Walk}
 use Rattle.encoder.proofs.Matrix.{generatorAt-digit, generatorRows-at, generatorRows-cells}
 
@@ -40,10 +41,6 @@ links-sum x n (a ∷ p) e =
     ∙ ap (λ (k : ℕ). sumBelow k (λ j. x (getD (a ∷ p) j 0) * x (getD p j 0))) (suc-inj e)
     ∙ sumBelow-cong n (λ j. x (getD (a ∷ p) j 0) * x (getD p j 0))
     (λ k. x (getD (a ∷ p) k 0) * x (getD (a ∷ p) (k + 1) 0)) (λ k _. rw (add-one k))
-
-headOf-at : (p : List ℕ) → headOf p ≡ getD p 0 0
-headOf-at [] = refl
-headOf-at (x ∷ p) = refl
 
 module _ (h m l : ℕ) (range : InRange h m) (used : l < labels h m) where
   abbrev path : List ℕ

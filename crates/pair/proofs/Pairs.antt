@@ -1,19 +1,20 @@
 -- Laws of the pair check. In order: the test of a pair is the claim; no word is a pair with itself.
 -- Assumes nothing.
 use mathlib.Core.Path.{_≡_, refl, sym, ap}
-use mathlib.Core.Bool.{Bool, true, false}
+use mathlib.Core.Bool.{true, false}
 use mathlib.Core.Logic.{_↔_}
-use Prim.Native.Nat.{ℕ, zero, suc, _+_, _-_, _*_, _%_, _≤_, _<_}
-use native.Mathlib.Nat.{mod-eq-of-lt, mod-lt, pow-suc, mod-eq-sub-mod}
+use Prim.Native.Nat.{ℕ, zero, suc, _+_, _-_, _%_, _≤_, _<_}
+use native.Mathlib.Nat.{mod-eq-of-lt, mod-lt}
 use native.Mathlib.Omega.{arith}
-use lib.Dec.{leb, eqb}
+use lib.Dec.{eqb}
 use lib.Pow.{pow-pos, pow-mono}
-use borrow.Author.Tests.{leb-true, leb-false, eq-eqb, eqb-true, ne-eqb}
+use borrow.Author.Tests.{eq-eqb, eqb-true, ne-eqb}
 use Rattle.range.specs.Below.{sumBelow, countBelow, oneIf}
 use Rattle.range.proofs.Tests.{allBelow-of, allBelow-at, allBelow-not}
 use Rattle.range.proofs.FromOne.{fromOne-of, fromOne-at, fromOne-not}
 use Rattle.rules.specs.Shape.{phases, halfTurn, carriers}
 use Rattle.rules.specs.Pair.{minus, phaseCount, pairCount, GolayPair, golayPair}
+use Rattle.rules.proofs.Turns.{halfTurn-moves}
 use Rattle.pair.specs.Words.{phasesAgree}
 
 module _ (h m : ℕ) (a b : ℕ → ℕ) where
@@ -44,24 +45,6 @@ phaseCount-last : (h n : ℕ) (a : ℕ → ℕ) (k : ℕ) → 1 ≤ n →
 unfolding phaseCount countBelow sumBelow
 phaseCount-last h n a k l = let e : n - (n - 1) ≡ suc zero = omega arith in rw e (omega arith)
 
--- half a turn from d is not d
-double-mod-ne : (s d : ℕ) → 1 ≤ s → d < s * 2 → (d + s) % (s * 2) ≡ d → ⊥
-double-mod-ne s d l h e = split (leb (s * 2) (d + s)) refl
-  where
-    split : (t : Bool) → leb (s * 2) (d + s) ≡ t → ⊥
-    split true r =
-        let b : s * 2 ≤ d + s = leb-true _ _ r in
-        omega (arith, e, mod-eq-sub-mod b, mod-eq-of-lt {n = d + s - s * 2} {m = s * 2} (omega (arith, h)))
-    split false r = omega (arith, e, mod-eq-of-lt {n = d + s} {m = s * 2} (leb-false _ _ r))
-
-pub phases-double : (h : ℕ) → 1 ≤ h → phases h ≡ halfTurn h * 2
-phases-double zero l = absurd (omega (arith, l))
-phases-double (suc h) l = let e : suc h - 1 ≡ h = omega arith in rw e (pow-suc 2 h)
-
-add-half-mod-ne : (h d : ℕ) → 1 ≤ h → d < phases h → (d + halfTurn h) % phases h ≡ d → ⊥
-add-half-mod-ne h d l s e =
-    double-mod-ne (halfTurn h) d (pow-pos (h - 1)) (rw (phases-double h l) at s) (rw (phases-double h l) at e)
-
 -- a place in each of two equal words with the same difference, and none half a turn on
 pairCount-ends-ne : (h n : ℕ) (a : ℕ → ℕ) → 1 ≤ h → 1 ≤ n →
     pairCount h n a a (n - 1) (ends h n a) ≡ pairCount h n a a (n - 1) (ends h n a + halfTurn h) → ⊥
@@ -71,7 +54,7 @@ pairCount-ends-ne h n a l s e =
     let here : oneIf (eqb d (d % phases h)) ≡ 1
     = ap oneIf (eq-eqb d (d % phases h) (sym (mod-eq-of-lt (ends-lt h n a)))) in
     let across : oneIf (eqb d ((d + halfTurn h) % phases h)) ≡ 0
-    = ap oneIf (ne-eqb d ((d + halfTurn h) % phases h) (λ x. add-half-mod-ne h d l (ends-lt h n a) (sym x))) in
+    = ap oneIf (ne-eqb d ((d + halfTurn h) % phases h) (λ x. halfTurn-moves h d l (ends-lt h n a) (sym x))) in
     omega (arith, here, across, phaseCount-last h n a d s, phaseCount-last h n a (d + halfTurn h) s)
 
 pub golayPair-self : (h m : ℕ) (a : ℕ → ℕ) → 1 ≤ h → 1 ≤ m → golayPair h m a a ≡ false

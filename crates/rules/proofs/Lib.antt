@@ -1,6 +1,7 @@
 -- Bounds of a shape in range, laws of Best, and the starred cases of 01 as one list with one claim. The other laws of
 -- the rules: crates paths and words.
 pub mod Range
+pub mod Turns
 pub mod BestLaws
 pub mod Silence
 pub mod KnownWords

@@ -6,9 +6,9 @@ use Prim.Native.Nat.{ℕ, zero, suc, _+_, _-_, _*_, _/_, _^_, _≤_}
 use native.Mathlib.Nat.{mul-le-mul, pow-succ'}
 use native.Mathlib.Omega.{arith}
 use mathlib.Core.Path.{_≡_, sym, _∙_, ap, subst}
-use mathlib.Core.Bool.{true}
+use mathlib.Core.Bool.{Bool, true, false, _&&_}
 use mathlib.Core.List.{[], _∷_}
-use lib.Dec.{T, leb, lit≤}
+use lib.Dec.{T, leb, leb→le, lit≤}
 use lib.ListN.{getD}
 use lib.Pow.{pow-mono}
 use borrow.Author.Tests.{leb-true, le-leb}
@@ -36,6 +36,13 @@ inShape-range h m e =
 pub range-inM : (h m : ℕ) → InRange h m → T (inM m)
 range-inM h m r =
     subst T (sym (and-of (leb 2 m) (leb m greatestM) (le-leb 2 m (r .m-least)) (le-leb m greatestM (r .m-most)))) tt
+
+T-and-left : (a b : Bool) → T (a && b) → T a
+T-and-left true b t = tt
+T-and-left false b t = t
+
+pub inM-least : (m : ℕ) → T (inM m) → 2 ≤ m
+inM-least m t = leb→le 2 m (T-and-left (leb 2 m) (leb m greatestM) t)
 
 -- no entry of the table is above 5
 entry-le : (i : ℕ) → getD (0 ∷ 1 ∷ 3 ∷ 5 ∷ []) i 0 ≤ 5

@@ -13,8 +13,8 @@ use Rattle.range.proofs.Tests.{allBelow-of, allBelow-not}
 use Rattle.rules.specs.Shape.{phases, halfTurn}
 use Rattle.rules.specs.Pair.{pairCount}
 use Rattle.rules.specs.Word.{symbolAt}
+use Rattle.rules.proofs.Range.{phases-half}
 use Rattle.shape.proofs.Powers.{power-is}
-use Rattle.pair.proofs.Pairs.{phases-double}
 use Rattle.pair.proofs.all_phases.Statement.{statement}
 use Rattle.pair.proofs.all_phases.Tie as tie
 
@@ -37,7 +37,7 @@ q-is : (c : tie.After-power Inv-loop μ-loop) → c .power .result ≡ phases (s
 q-is c = c .power .ensures ∙ power-is _ (omega (arith, start c .pre .0 .first .h-most))
 
 half-is : (c : tie.After-power Inv-loop μ-loop) → c .power .result / 2 ≡ halfTurn (start c .args .h)
-half-is c = omega (arith, q-is c, phases-double _ (start c .pre .0 .first .h-least))
+half-is c = omega (arith, q-is c, phases-half _ (start c .pre .0 .first .h-least))
 
 loop-holds : tie.Need-loop-holds Inv-loop μ-loop
 loop-holds c = (omega arith, below-none _)
