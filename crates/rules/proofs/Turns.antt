@@ -22,4 +22,5 @@ turn-moves c x p b e = elim (decLt x c) [ yes l ↦ small l | no l ↦ large l ]
         omega (arith, e, s, mod-eq-of-lt {n = x + c - 2 * c} {m = 2 * c} (omega arith))
 
 pub halfTurn-moves : (h x : ℕ) → 1 ≤ h → x < phases h → (x + halfTurn h) % phases h ≢ x
-halfTurn-moves h x one b = rw (phases-half h one) (turn-moves (halfTurn h) x (pow-pos (h - 1)) (rw (phases-half h one) at b))
+halfTurn-moves h x one b =
+    rw (phases-half h one) (turn-moves (halfTurn h) x (pow-pos (h - 1)) (rw (phases-half h one) at b))

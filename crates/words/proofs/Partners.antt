@@ -48,7 +48,8 @@ module _ (h m l : ℕ) (one : 1 ≤ h) (range : T (inM m)) (used : l < labels h 
   pub partnerAt-differs : partnerAt h m l place ≢ wordAt h m l place
   unfolding partnerAt
   partnerAt-differs =
-      rw (digit-one-at m first, mul-one (halfTurn h)) (halfTurn-moves h (wordAt h m l place) one (wordAt-lt h m l place))
+      rw (digit-one-at m first, mul-one (halfTurn h))
+      (halfTurn-moves h (wordAt h m l place) one (wordAt-lt h m l place))
 
 -- the sham "a partner that is the word itself" is excluded for every message of every shape
 pub partnerOf-not-wordOf : (h m g : ℕ) → 1 ≤ h → T (inM m) → g < messages h m → partnerOf h m g ≢ wordOf h m g
