@@ -27,9 +27,9 @@ pub enum Written {
 }
 
 // A label taken apart: its path number, and its coefficients, c and then c_1 to c_m.
-pub struct Parts {
-    pub path: PathNumber,
-    pub c: [u32; ROWS],
+struct Parts {
+    path: PathNumber,
+    c: [u32; ROWS],
 }
 
 // Writes the N symbols of the message's word to out. Refuses 1 a shape out of range, 2 an out that is not N long, 4 a
