@@ -1,6 +1,7 @@
 -- Laws of the promise of encode and partner.
 -- In order: the outcome, refusal by refusal; the promise of a refusal and of a word written; a word said in another
--- way; only one outcome satisfies it; the word where nothing is refused.  Assumes nothing.
+-- way; only one outcome satisfies it; the slice where nothing is refused, and
+-- where something is.  Assumes nothing.
 use Prim.Native.Nat.{ℕ}
 use mathlib.Core.Path.{_≡_, refl, sym, _∙_, ap, subst}
 use mathlib.Core.Bool.{true, false}
@@ -71,3 +72,9 @@ sent-unique h m g word before r s after after′ p q =
 pub sent-word : {h m g : ℕ} {word before : List ℕ} {r : Written} {after : List ℕ} → Sent h m g word before r after →
     sendRefusal h m (length before) g ≡ allowed → after ≡ word
 sent-word {word = word} {before = before} s e = s .slice ∙ ap (λ (o : Outcome (Unit {0})). sliceAfter o before word) e
+
+-- and where something is, whatever it held
+pub sent-kept : {h m g : ℕ} {word before : List ℕ} {r : Written} {after : List ℕ} (k : ℕ) (v : List ℕ) →
+    Sent h m g word before r after → sendRefusal h m (length before) g ≡ refuses k v → after ≡ before
+sent-kept {word = word} {before = before} k v s e =
+    s .slice ∙ ap (λ (o : Outcome (Unit {0})). sliceAfter o before word) e

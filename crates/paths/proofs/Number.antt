@@ -2,19 +2,21 @@
 -- In order: the factorial; the orders of n numbers are n ! many; tests of order; the orders of 1, .., m, none twice,
 -- as many rising from first to last as falling; the law; the paths in use are among them; the paths of 4.
 -- Not here: which lists are paths (Members), their order (Increasing).  Assumes nothing.
-use Prim.Native.Nat.{ℕ, zero, suc, _+_, _*_, _≤_, _<_}
+use Prim.Native.Nat.{ℕ, zero, suc, _+_, _-_, _*_, _≤_, _<_}
 use native.Mathlib.Nat.{le-antisymm}
 use native.Mathlib.Decide.{decLt}
 use native.Mathlib.Omega.{arith}
-use mathlib.Core.Path.{_≡_, refl, _∙_, ap}
+use mathlib.Core.Path.{_≡_, refl, _∙_, ap, subst}
 use mathlib.Core.Logic.{_≢_}
-use mathlib.Core.Bool.{Bool, true, false, not, _&&_}
+use mathlib.Core.Bool.{Bool, true, not}
 use mathlib.Core.List.{List, [], _∷_, map, flatMap, reverse, List·Memᴰ}
-use lib.Dec.{T, leb, ltb, leb→le, lit≤}
+use lib.Dec.{T, leb, ltb}
 use lib.ListN.{length, length-map}
-use borrow.Author.Tests.{lt-ltb, le-ltb}
-use Rattle.range.specs.Below.{listBelow}
+use borrow.Author.Tests.{lt-ltb, le-ltb, leb-true}
+use Rattle.range.specs.Below.{listBelow, allBelow}
+use Rattle.range.proofs.Tests.{allBelow-at}
 use Rattle.rules.specs.Shape.{greatestM, inM, pathsInUse, pathBits}
+use Rattle.rules.proofs.Range.{inM-least, inM-le}
 use Rattle.rules.specs.Path.{headOf, lastOf, keep, without, orders, upTo, paths, Before}
 use Rattle.paths.proofs.Times.{Distinct, distinct-once, distinct-without, length-without}
 use Rattle.paths.proofs.Orders.{IsOrder, orders-isOrder, isOrder-orders}
@@ -98,24 +100,20 @@ module _ (m : ℕ) where
         length-keep-not rises falls (orders m (upTo m)) (λ p i. falls-not p h i),
       )
 
-T-right : (a b : Bool) → T (a && b) → T b
-T-right true b t = t
-T-right false b t = absurd t
-
-inM-le : (m : ℕ) → T (inM m) → m ≤ greatestM
-inM-le m t = leb→le m greatestM (T-right (leb 2 m) (leb m greatestM) t)
+inUse-test : allBelow (greatestM - 1) (λ i. leb (pathsInUse (i + 2) + pathsInUse (i + 2)) ((i + 2) !)) ≡ true
+unfolding allBelow pathBits _!
+inUse-test = refl
 
 -- the numbers of the paths in use are numbers of paths
 pub inUse-le : (m : ℕ) → T (inM m) → pathsInUse m ≤ length (paths m)
-unfolding pathBits _!
-inUse-le zero t = absurd t
-inUse-le (suc zero) t = absurd t
-inUse-le (suc (suc zero)) t = omega (arith, length-paths 2 (lit≤ tt))
-inUse-le (suc (suc (suc zero))) t = omega (arith, length-paths 3 (lit≤ tt))
-inUse-le (suc (suc (suc (suc zero)))) t = omega (arith, length-paths 4 (lit≤ tt))
-inUse-le (suc (suc (suc (suc (suc zero))))) t = omega (arith, length-paths 5 (lit≤ tt))
-inUse-le (suc (suc (suc (suc (suc (suc m)))))) t =
-    absurd (omega (arith, inM-le (suc (suc (suc (suc (suc (suc m)))))) t))
+inUse-le m t =
+    let two : 2 ≤ m = inM-least m t in
+    let e : m - 2 + 2 ≡ m = omega (arith, two) in
+    let i : m - 2 < greatestM - 1 = omega (arith, two, inM-le m t) in
+    let b : pathsInUse m + pathsInUse m ≤ m ! =
+    subst (λ (n : ℕ). pathsInUse n + pathsInUse n ≤ n !) e
+    (leb-true _ _ (allBelow-at (greatestM - 1) _ inUse-test (m - 2) i)) in
+    omega (arith, b, length-paths m two)
 
 -- the twelve of document 01
 pub paths-four : paths 4 ≡

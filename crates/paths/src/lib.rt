@@ -61,7 +61,7 @@ const PATHS: [[u8; STEPS]; USED] = [
 // Where the paths of m = 2, 3, 4 and 5 begin.
 const STARTS: [usize; STEPS - 1] = [0, 1, 3, 11];
 
-// The steps of path n of m, 0 after the m-th; zeros where m is out of range or path n is not in use.
+// The steps of path n of m, 0 after the m-th, for an m in range and a path in use; else a row of the table or zeros.
 pub fn steps(m: u32, n: PathNumber) -> [u8; STEPS]
     ensures { λ p. ⌜ (2 ≤ m → m ≤ greatestM → n .0 < pathsInUse m → p ≡ pathRow m (n .0)) ⌝ }
 {

@@ -3,7 +3,7 @@
 -- Not here: sums and counts (Sums), lists (Lists).  Assumes nothing.
 use Prim.Native.Nat.{ℕ, zero, suc, _<_, zero-le, suc-le-suc}
 use native.Mathlib.Nat.{not-suc-le-zero, le-of-suc-le-suc}
-use mathlib.Core.Path.{_≡_, refl, sym, _∙_, ap}
+use mathlib.Core.Path.{_≡_, refl, sym, _∙_, ap, subst}
 use mathlib.Core.Bool.{Bool, true, false, _&&_, false≢true, and-true, and-assoc}
 use mathlib.Core.Option.{Option, none, some}
 use Rattle.range.specs.Below.{allBelow, firstBelow, zeroOr}
@@ -97,3 +97,16 @@ pub found : (n : ℕ) (f : ℕ → Bool) → Found n f (firstBelow n f)
 unfolding firstBelow
 found zero f = nowhere (λ i h. absurd (not-suc-le-zero h))
 found (suc n) f = found-step n f (f zero) (firstBelow n (λ i. f (suc i))) refl (found n (λ i. f (suc i)))
+
+pub firstBelow-at : (n : ℕ) (f : ℕ → Bool) (i : ℕ) → firstBelow n f ≡ some i →
+    (i < n) × ((f i ≡ true) × ((j : ℕ) → j < i → f j ≡ false))
+firstBelow-at n f i e = of (subst (Found n f) e (found n f))
+  where
+    of : Found n f (some i) → (i < n) × ((f i ≡ true) × ((j : ℕ) → j < i → f j ≡ false))
+    of (at k l p b) = (l, (p, b))
+
+pub firstBelow-nowhere : (n : ℕ) (f : ℕ → Bool) → firstBelow n f ≡ none → (i : ℕ) → i < n → f i ≡ false
+firstBelow-nowhere n f e = of (subst (Found n f) e (found n f))
+  where
+    of : Found n f none → (i : ℕ) → i < n → f i ≡ false
+    of (nowhere a) = a

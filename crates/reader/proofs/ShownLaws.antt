@@ -7,7 +7,8 @@ use native.Mathlib.Nat.{lt-of-lt-of-le, mul-le-mul-left}
 use native.Mathlib.Numerals.{add-one}
 use native.Mathlib.Omega.{arith}
 use mathlib.Core.Path.{_≡_, refl, sym, _∙_, ap, ap₂, subst}
-use mathlib.Core.Bool.{Bool, true}
+use mathlib.Core.Logic.{_↔_}
+use mathlib.Core.Bool.{Bool, true, false≢true}
 use mathlib.Core.List.{List}
 use mathlib.Core.Option.{none, some}
 use lib.Dec.{eqb}
@@ -18,7 +19,8 @@ use lib.Seq.{ext-getD}
 use borrow.Author.Tests.{eq-eqb, eqb-true}
 use Rattle.range.specs.Below.{allBelow}
 use Rattle.range.proofs.Tests.{false-of-not-true, allBelow-of, allBelow-at, firstBelow-some, firstBelow-none}
-use Rattle.rules.specs.Shape.{phases, carriers, pathsInUse, messageBits}
+use Rattle.range.proofs.Tests.{firstBelow-at, firstBelow-nowhere}
+use Rattle.rules.specs.Shape.{phases, carriers, pathsInUse, messages}
 use Rattle.rules.specs.Label.{labels, labelPath, coefficient, constant, labelOf, messageOf}
 use Rattle.rules.specs.Word.{wordAt, wordOf}
 use Rattle.rules.specs.Pair.{minus}
@@ -89,7 +91,7 @@ module _ (h m : ℕ) (w : List ℕ) (word : Word h m w) where
       (numberOf-lt h (shown h m w) m n (symbolAt w 0) l (λ j _ _. shown-lt h m w j) first-lt)
 
   -- a message's word shows the message's own label
-  module _ (g : ℕ) (taken : g < 2 ^ messageBits h m) (has : wordOf h m g ≡ w) where
+  module _ (g : ℕ) (taken : g < messages h m) (has : wordOf h m g ≡ w) where
     abbrev l : ℕ
     l = labelOf h m g
 
@@ -135,21 +137,42 @@ module _ (h m : ℕ) (w : List ℕ) (word : Word h m w) where
       let b′ : i < carriers m = subst (λ (n : ℕ). i < n) (length-wordOf h m g) b in
       wordOf-at h m g i b′ ∙ eqb-true _ _ (allBelow-at (carriers m) _ e i b′))
 
-  pub messageWith-some : (g : ℕ) → g < 2 ^ messageBits h m → wordOf h m g ≡ w → messageWith h m w ≡ some g
+  pub messageWith-some : (g : ℕ) → g < messages h m → wordOf h m g ≡ w → messageWith h m w ≡ some g
   unfolding messageWith
   messageWith-some g taken e =
-      firstBelow-some (2 ^ messageBits h m) hasWord g taken (hasWord-of g e)
+      firstBelow-some (messages h m) hasWord g taken (hasWord-of g e)
       (λ j b. false-of-not-true (hasWord j) (λ t. before j b (wordOf-inj m (range-inM h m range) h j g (range .h-least)
       (lt-trans b taken) taken (hasWord-is j t ∙ sym e))))
     where
       before : (j : ℕ) → j < g → j ≡ g → ⊥
       before j b q = lt-irrefl g (subst (λ (x : ℕ). x < g) q b)
 
+  -- the message that is found is exactly the one whose word the symbols are
+  pub messageWith-iff : (g : ℕ) → (messageWith h m w ≡ some g) ↔ ((g < messages h m) × (wordOf h m g ≡ w))
+  unfolding messageWith
+  messageWith-iff g = (forth, λ p. messageWith-some g (p .0) (p .1))
+    where
+      forth : messageWith h m w ≡ some g → (g < messages h m) × (wordOf h m g ≡ w)
+      forth e =
+          let f = firstBelow-at (messages h m) hasWord g e in
+          (f .0, hasWord-is g (f .1 .0))
+
+  -- none is found exactly where no message has the word; for that each path in use is tried with what is shown
+  pub messageWith-none-iff : (messageWith h m w ≡ none) ↔ ((g : ℕ) → g < messages h m → wordOf h m g ≡ w → ⊥)
+  unfolding messageWith
+  messageWith-none-iff = (forth, back)
+    where
+      forth : messageWith h m w ≡ none → (g : ℕ) → g < messages h m → wordOf h m g ≡ w → ⊥
+      forth e g l s = false≢true (sym (firstBelow-nowhere (messages h m) hasWord e g l) ∙ hasWord-of g s)
+
+      back : ((g : ℕ) → g < messages h m → wordOf h m g ≡ w → ⊥) → messageWith h m w ≡ none
+      back n =
+          firstBelow-none (messages h m) hasWord
+          (λ g l. false-of-not-true (hasWord g) (λ t. n g l (hasWord-is g t)))
+
   pub messageWith-none : ((n : ℕ) → n < pathsInUse m → wordOf h m (messageOf h m (labelWith h m w n)) ≡ w → ⊥) →
       messageWith h m w ≡ none
-  unfolding messageWith
   messageWith-none tried =
-      firstBelow-none (2 ^ messageBits h m) hasWord
-      (λ g taken. false-of-not-true (hasWord g) (λ t. let e : wordOf h m g ≡ w = hasWord-is g t in
-      tried (labelPath h m (labelOf h m g)) (path-used g taken e)
-      (ap (wordOf h m) (shows-message g taken e) ∙ e)))
+      messageWith-none-iff .1
+      (λ g taken e. tried (labelPath h m (labelOf h m g)) (path-used g taken e)
+      (ap (wordOf h m) (shows-message g taken e) ∙ e))

@@ -8,7 +8,7 @@ ghost use Prim.Native.Nat.{_^_, _<_};
 ghost use mathlib.Core.Path.{_≡_};
 ghost use mathlib.Core.Bool.{true};
 ghost use lib.ListN.{length};
-ghost use Rattle.rules.specs.Shape.{messageBits};
+ghost use Rattle.rules.specs.Shape.{messages};
 ghost use Rattle.rules.specs.Word.{wordOf};
 ghost use Rattle.rules.specs.Table.{messageWith};
 ghost use Rattle.rules.specs.Refusal.{readOutcome, orNoWord};
@@ -25,6 +25,7 @@ pub enum Reading {
 // symbol that is 2^h or more, with the first such place, 5 symbols that are no message's word. The word is only read.
 pub fn read(h: u32, m: u32, word: &[u8]) -> Reading
     ensures { λ r. ⌜ readingTold r ≡ readOutcome h m (now (word .entry)) ⌝ }
+    ensures { λ _. ⌜ now (word .exit) ≡ now (word .entry) ⌝ }
 {
     if !shape::in_shape(h, m) {
         return Reading::Refused(Refusal::Shape);
@@ -61,7 +62,7 @@ fn search(h: u32, m: u32, word: &[u8]) -> Reading
 // Whether the symbols are the message's word.
 fn is_word(h: u32, m: u32, message: MessageNumber, word: &[u8]) -> bool
     requires { ⌜ Word h m (now word) ⌝ }
-    requires { ⌜ message .0 < 2 ^ messageBits h m ⌝ }
+    requires { ⌜ message .0 < messages h m ⌝ }
     ensures { λ r. ⌜ (r ≡ true → wordOf h m (message .0) ≡ now (word .entry))
         × (wordOf h m (message .0) ≡ now (word .entry) → r ≡ true) ⌝ }
 {
@@ -73,7 +74,7 @@ fn is_word(h: u32, m: u32, message: MessageNumber, word: &[u8]) -> bool
 // The same, with a buffer as long as the word to write the message's word to.
 fn compare(h: u32, m: u32, message: MessageNumber, buffer: &mut [u8], word: &[u8]) -> bool
     requires { ⌜ Word h m (now word) ⌝ }
-    requires { ⌜ message .0 < 2 ^ messageBits h m ⌝ }
+    requires { ⌜ message .0 < messages h m ⌝ }
     requires { ⌜ length (now buffer) ≡ length (now word) ⌝ }
     ensures { λ r. ⌜ (r ≡ true → wordOf h m (message .0) ≡ now (word .entry))
         × (wordOf h m (message .0) ≡ now (word .entry) → r ≡ true) ⌝ }

@@ -2,19 +2,20 @@
 -- In order: the ranges of h and m; w; the bits of a message number; the phases and half of them, the carriers, the
 -- paths in use.
 -- Assumes nothing.
-use Prim.Native.Nat.{ℕ, zero, suc, _+_, _-_, _*_, _/_, _^_, _≤_}
+use Prim.Native.Nat.{ℕ, suc, _+_, _-_, _*_, _/_, _^_, _≤_, _<_}
 use native.Mathlib.Nat.{mul-le-mul, pow-succ'}
+use native.Mathlib.Decide.{decLt}
 use native.Mathlib.Omega.{arith}
-use mathlib.Core.Path.{_≡_, sym, _∙_, ap, subst}
+use mathlib.Core.Path.{_≡_, refl, sym, _∙_, ap, subst}
 use mathlib.Core.Bool.{Bool, true, false, _&&_}
-use mathlib.Core.List.{[], _∷_}
 use lib.Dec.{T, leb, leb→le, lit≤}
-use lib.ListN.{getD}
+use lib.ListN.{length, getD, List·getD-eq-default}
 use lib.Pow.{pow-mono}
 use borrow.Author.Tests.{leb-true, le-leb}
-use Rattle.range.proofs.Tests.{and-left, and-right, and-of}
+use Rattle.range.specs.Below.{allBelow}
+use Rattle.range.proofs.Tests.{and-left, and-right, and-of, allBelow-at}
 use Rattle.rules.specs.Shape.{greatestH, greatestM, pathBits, inH, inM, inShape, phases, carriers, pathsInUse}
-use Rattle.rules.specs.Shape.{messageBits, halfTurn}
+use Rattle.rules.specs.Shape.{pathWidths, messageBits, halfTurn}
 
 pub record InRange (h m : ℕ) : Type 0 where
   pub h-least : 1 ≤ h
@@ -37,20 +38,33 @@ pub range-inM : (h m : ℕ) → InRange h m → T (inM m)
 range-inM h m r =
     subst T (sym (and-of (leb 2 m) (leb m greatestM) (le-leb 2 m (r .m-least)) (le-leb m greatestM (r .m-most)))) tt
 
-T-and-left : (a b : Bool) → T (a && b) → T a
-T-and-left true b t = tt
-T-and-left false b t = t
+T-left : (a b : Bool) → T (a && b) → T a
+T-left true b t = tt
+T-left false b t = t
+
+T-right : (a b : Bool) → T (a && b) → T b
+T-right true b t = t
+T-right false b t = absurd t
 
 pub inM-least : (m : ℕ) → T (inM m) → 2 ≤ m
-inM-least m t = leb→le 2 m (T-and-left (leb 2 m) (leb m greatestM) t)
+inM-least m t = leb→le 2 m (T-left (leb 2 m) (leb m greatestM) t)
+
+pub inM-le : (m : ℕ) → T (inM m) → m ≤ greatestM
+inM-le m t = leb→le m greatestM (T-right (leb 2 m) (leb m greatestM) t)
 
 -- no entry of the table is above 5
-entry-le : (i : ℕ) → getD (0 ∷ 1 ∷ 3 ∷ 5 ∷ []) i 0 ≤ 5
-entry-le zero = lit≤ tt
-entry-le (suc zero) = lit≤ tt
-entry-le (suc (suc zero)) = lit≤ tt
-entry-le (suc (suc (suc zero))) = lit≤ tt
-entry-le (suc (suc (suc (suc i)))) = lit≤ tt
+entry-test : allBelow (length pathWidths) (λ i. leb (getD pathWidths i 0) 5) ≡ true
+unfolding allBelow
+entry-test = refl
+
+entry-le : (i : ℕ) → getD pathWidths i 0 ≤ 5
+entry-le i = at (decLt i (length pathWidths))
+  where
+    at : Dec (i < length pathWidths) → getD pathWidths i 0 ≤ 5
+    at (yes l) = leb-true _ 5 (allBelow-at (length pathWidths) _ entry-test i l)
+    at (no n) =
+        let b : length pathWidths ≤ i = omega arith in
+        rw (List·getD-eq-default pathWidths 0 b) (lit≤ tt)
 
 pub pathBits-le : (m : ℕ) → pathBits m ≤ 5
 unfolding pathBits

@@ -1,5 +1,6 @@
 -- Soft values that are all zero: every correlation is zero, for two and four phases and every m.
--- In order: a zero value is heard as zero; zeros sum to zero; the correlation; two labels at least; the best of equals.
+-- In order: a zero value is heard as zero; zeros sum to zero; the correlation; two labels at least; message 0's label;
+-- the best of equals.
 -- Assumes nothing.
 use Prim.Native.Nat.{ℕ, zero, suc, _+_, _*_, _<_, _≤_}
 use native.Mathlib.Nat.{pow-le-pow-right, lt-of-lt-of-le, le-refl, mul-le-mul}
@@ -66,10 +67,14 @@ labels-two h m one =
     omega (arith, mul-le-mul {n₁ = 1} {m₁ = 1} {n₂ = h} {m₂ = m + 1} one (omega arith)) in
     lt-of-lt-of-le (le-refl 2) (pow-le-pow-right {n = 2} (lit≤ tt) {i = 1} {j = messageBits h m} b)
 
+labelOf-zero : (h m : ℕ) → labelOf h m 0 ≡ 0
+unfolding labelOf
+labelOf-zero h m = refl
+
 -- 01: any soft shape, all zeros
 pub greatest-of-zeros : (h m : ℕ) → 1 ≤ h →
     Greatest h m (replicate (softLength h m) (pos 0)) (labelOf h m 0) (pos 0) true
-unfolding zeros labelOf
+unfolding zeros
 greatest-of-zeros h m one =
-    best-of-equal (labels h m) leZ (correlation h m (zeros (softLength h m))) (pos 0) (labels-two h m one)
-    (λ l. correlation-zero h m (softLength h m) l) tt
+    rw (labelOf-zero h m) (best-of-equal (labels h m) leZ (correlation h m (zeros (softLength h m))) (pos 0) (labels-two h m one)
+    (λ l. correlation-zero h m (softLength h m) l) tt)

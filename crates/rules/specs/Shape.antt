@@ -1,6 +1,6 @@
 -- The shape of a word: 01 "What a logger may send".
 -- Defines:  greatestH, greatestM     the ends of the ranges of h and m; they stand here alone
---           pathBits m               w, the bits of a path number; 01's table stands here alone
+--           pathWidths, pathBits m   01's table of w, which stands here alone; w, the bits of a path number
 --           inH h, inM m, inShape    whether h is in 1..greatestH, m in 2..greatestM, both
 --           phases h, halfTurn h     2^h phases, and half as many, 2^(h-1)
 --           carriers m               N = 2^m
@@ -10,7 +10,7 @@
 -- Assumes nothing: these are definitions.
 use Prim.Native.Nat.{ℕ, _+_, _-_, _*_, _^_}
 use mathlib.Core.Bool.{Bool, _&&_}
-use mathlib.Core.List.{[], _∷_}
+use mathlib.Core.List.{List, [], _∷_}
 use lib.Dec.{leb}
 use lib.ListN.{getD}
 
@@ -21,8 +21,11 @@ abbrev pub greatestM : ℕ
 greatestM = 5
 
 -- w for m = 2, 3, ..
+abbrev pub pathWidths : List ℕ
+pathWidths = 0 ∷ 1 ∷ 3 ∷ 5 ∷ []
+
 unfoldable pub pathBits : ℕ → ℕ
-pathBits m = getD (0 ∷ 1 ∷ 3 ∷ 5 ∷ []) (m - 2) 0
+pathBits m = getD pathWidths (m - 2) 0
 
 abbrev pub inH : ℕ → Bool
 inH h = leb 1 h && leb h greatestH

@@ -1,27 +1,27 @@
--- Laws of firstBad: where nothing is found every symbol is below q; with 2^h for q it is the table's test of symbols.
+-- Laws of firstBad: where nothing is found every symbol is below q, and what is found is the first that is not; with 2^h for q it is the table's test of symbols.
 -- Assumes nothing.
-use Prim.Native.Nat.{ℕ, _<_}
-use native.Mathlib.Omega.{arith}
-use mathlib.Core.Path.{_≡_, refl}
-use mathlib.Core.Bool.{Bool, false}
+use Prim.Native.Nat.{ℕ, _≤_, _<_}
+use mathlib.Core.Path.{_≡_, refl, sym}
 use mathlib.Core.List.{List}
-use mathlib.Core.Option.{Option, none, some}
+use mathlib.Core.Option.{none, some}
 use lib.Dec.{leb}
 use lib.ListN.{length}
-use borrow.Author.Tests.{leb-false}
-use Rattle.range.proofs.Tests.{Found, nowhere, found}
+use borrow.Author.Tests.{leb-true, leb-false}
+use Rattle.range.proofs.Tests.{firstBelow-at, firstBelow-nowhere}
 use Rattle.rules.specs.Shape.{phases}
 use Rattle.rules.specs.Word.{symbolAt}
 use Rattle.rules.specs.Table.{badSymbol}
 use Rattle.shape.specs.Symbols.{firstBad}
 
-none-found : (n : ℕ) (f : ℕ → Bool) (o : Option ℕ) → Found n f o → none ≡ o → (i : ℕ) → i < n → f i ≡ false
-none-found n f none (nowhere a) e = a
-none-found n f (some j) r e = absurd (let z : _≡_ {A = ℕ} 0 1 = cc in omega arith)
-
 pub firstBad-none : (q : ℕ) (w : List ℕ) → none ≡ firstBad q w → (i : ℕ) → i < length w → symbolAt w i < q
 firstBad-none q w e i h =
-    leb-false _ _ (none-found (length w) (λ k. leb q (symbolAt w k)) (firstBad q w) (found _ _) e i h)
+    leb-false _ _ (firstBelow-nowhere (length w) (λ k. leb q (symbolAt w k)) (sym e) i h)
+
+pub firstBad-some : (q : ℕ) (w : List ℕ) (i : ℕ) → some i ≡ firstBad q w →
+    (i < length w) × ((q ≤ symbolAt w i) × ((j : ℕ) → j < i → symbolAt w j < q))
+firstBad-some q w i e =
+    let f = firstBelow-at (length w) (λ k. leb q (symbolAt w k)) i (sym e) in
+    (f .0, (leb-true _ _ (f .1 .0), λ j l. leb-false _ _ (f .1 .1 j l)))
 
 pub firstBad-phases : (h : ℕ) (w : List ℕ) → firstBad (phases h) w ≡ badSymbol h w
 unfolding badSymbol

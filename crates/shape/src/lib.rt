@@ -1,5 +1,6 @@
 // The tests of document 01's table and the numbers that a shape gives, as code.
-// No function here has a requires: outside a shape in range each says what it gives.
+// No function here has a requires: outside its range each says what it gives, but for `minus`, which promises only
+// inside.
 // The greatest h, the greatest m and the table w stand here alone; their definitions are in rules, specs/Shape.antt.
 use kinds::MessageNumber;
 use kinds::Place;

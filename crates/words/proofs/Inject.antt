@@ -1,5 +1,6 @@
 -- The law that the word determines its label: 001 Corollary 4, 01 "What a logger may send". In order: sums modulo q
--- with an equal summand; multiples of half the phases; the links at the place with two digits; what two labels with the
+-- with an equal summand; multiples of half the phases; the links at the place with two digits; a path by its
+-- quadratic part; what two labels with the
 -- same word share, part by part; the law for labels, and for messages.
 -- Not here: what a word shows at single places (Readings), what is known of the paths in use (Used).  Assumes nothing.
 use Prim.Native.Nat.{ℕ, suc, _+_, _-_, _*_, _/_, _%_, _^_, _≤_, _<_, zero-le, suc-le-suc}
@@ -16,18 +17,20 @@ use lib.Pow.{pow-pos}
 use borrow.Author.Tests.{eqb-true, eqb-false}
 use Rattle.range.specs.Below.{oneIf}
 use Rattle.range.proofs.Sums.{sumBelow-cong}
-use Rattle.rules.specs.Shape.{phases, halfTurn, carriers, messageBits, inM}
+use Rattle.rules.specs.Shape.{phases, halfTurn, carriers, messages, pathsInUse, inM}
 use Rattle.rules.specs.Place.{digit}
-use Rattle.rules.specs.Path.{pathAt}
+use Rattle.rules.specs.Path.{IsPath, pathAt}
 use Rattle.rules.specs.Label.{labels, labelPath, coefficient, constant, labelOf, messageOf}
 use Rattle.rules.specs.Word.{links, formAt, wordAt, wordOf}
 use Rattle.rules.specs.Pair.{minus}
 use Rattle.rules.proofs.Range.{phases-half}
+use Rattle.paths.proofs.Increasing.{pathAt-inj}
 use Rattle.paths.proofs.Pairs.{onPair}
+use Rattle.paths.proofs.Links.{path-of-links}
 use Rattle.words.proofs.Digits.{one-lt, twoAt, digit-two-lt, digit-two-first, digit-two-second, digit-two-off}
 use Rattle.words.proofs.Labels.{label-inj, labelPath-lt, messageOf-labelOf, labelOf-lt}
 use Rattle.words.proofs.Forms.{wordOf-at}
-use Rattle.words.proofs.Used.{labelPath-good, used-inj}
+use Rattle.words.proofs.Used.{isPath-good, used-lt, used-isPath, labelPath-good}
 use Rattle.words.proofs.Readings.{Good, links-cong, linear, wordAt-zero, coefficient-read}
 
 -- s and what completes it to a multiple of q
@@ -68,6 +71,15 @@ module _ (m a b : ℕ) (la : 1 ≤ a) (lb : a < b) (lm : b ≤ m) where
   links-onPair p g =
       links-cong (digit m (twoAt m a b)) (onPair a b) p (λ i l. digit-onPair (getD p i 0) (g .within i l))
 
+-- a path is determined by its quadratic part at every place
+pub path-of-form : (m : ℕ) (p q : List ℕ) → IsPath m p → IsPath m q →
+    ((i : ℕ) → i < carriers m → links (digit m i) p % 2 ≡ links (digit m i) q % 2) → p ≡ q
+path-of-form m p q s t same =
+    path-of-links m p q s t
+    (λ a b la lb lm. ap (λ (n : ℕ). n % 2) (sym (links-onPair m a b la lb lm p (isPath-good m p s)))
+    ∙ same (twoAt m a b) (digit-two-lt m a b la lb lm)
+    ∙ ap (λ (n : ℕ). n % 2) (links-onPair m a b la lb lm q (isPath-good m q t)))
+
 -- the links of label l at place i
 abbrev linked : ℕ → ℕ → ℕ → ℕ → ℕ
 linked h m l i = links (digit m i) (pathAt m (labelPath h m l))
@@ -100,22 +112,19 @@ module _ (m : ℕ) (range : T (inM m)) where
         half-parity h (linked h m l i) (linked h m k i) pos
         (mod-cancel (phases h) (halfTurn h * linked h m l i) (halfTurn h * linked h m k i) s (pow-pos h) e)
 
-    same-links : (a b : ℕ) → 1 ≤ a → a < b → b ≤ m →
-        links (onPair a b) (pathAt m (labelPath h m l)) % 2 ≡ links (onPair a b) (pathAt m (labelPath h m k)) % 2
-    same-links a b p q r =
-        ap (λ (n : ℕ). n % 2) (sym (links-onPair m a b p q r _ (labelPath-good h m l range ll)))
-        ∙ same-parity (twoAt m a b) (digit-two-lt m a b p q r)
-        ∙ ap (λ (n : ℕ). n % 2) (links-onPair m a b p q r _ (labelPath-good h m k range lk))
-
     same-path : labelPath h m l ≡ labelPath h m k
-    same-path = used-inj m _ _ range (labelPath-lt h m l ll) (labelPath-lt h m k lk) same-links
+    same-path =
+        let a : labelPath h m l < pathsInUse m = labelPath-lt h m l ll in
+        let b : labelPath h m k < pathsInUse m = labelPath-lt h m k lk in
+        pathAt-inj m _ _ (used-lt m _ range a) (used-lt m _ range b)
+        (path-of-form m _ _ (used-isPath m _ range a) (used-isPath m _ range b) same-parity)
 
   pub wordAt-inj : (h l k : ℕ) → 1 ≤ h → l < labels h m → k < labels h m →
       ((i : ℕ) → i < carriers m → wordAt h m l i ≡ wordAt h m k i) → l ≡ k
   wordAt-inj h l k p a b s =
       label-inj h m l k (same-path h l k p a b s) (same-coefficient h l k p a b s) (same-constant h l k p a b s)
 
-  pub wordOf-inj : (h g g′ : ℕ) → 1 ≤ h → g < 2 ^ messageBits h m → g′ < 2 ^ messageBits h m →
+  pub wordOf-inj : (h g g′ : ℕ) → 1 ≤ h → g < messages h m → g′ < messages h m →
       wordOf h m g ≡ wordOf h m g′ → g ≡ g′
   wordOf-inj h g g′ p b b′ e =
       let same : (i : ℕ) → i < carriers m → wordAt h m (labelOf h m g) i ≡ wordAt h m (labelOf h m g′) i =

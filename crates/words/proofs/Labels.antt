@@ -10,7 +10,7 @@ use native.Mathlib.Omega.{arith}
 use mathlib.Core.Path.{_≡_, refl, sym, _∙_}
 use lib.Arith.{digits-lt, digits-div, digits-mod}
 use lib.Pow.{pow-pos, pow-add, shr-lt}
-use Rattle.rules.specs.Shape.{phases, pathsInUse, pathBits, messageBits}
+use Rattle.rules.specs.Shape.{phases, pathsInUse, pathBits, messages}
 use Rattle.rules.specs.Label.{labels, labelPath, coefficient, constant, labelOf, messageOf}
 
 pub phases-pow : (h j : ℕ) → phases h ^ j ≡ 2 ^ (h * j)
@@ -154,10 +154,10 @@ pub labelOf-messageOf : (h m l : ℕ) → labelOf h m (messageOf h m l) ≡ l
 unfolding labelOf messageOf
 labelOf-messageOf h m l = refl
 
-pub labelOf-lt : (h m g : ℕ) → g < 2 ^ messageBits h m → labelOf h m g < labels h m
+pub labelOf-lt : (h m g : ℕ) → g < messages h m → labelOf h m g < labels h m
 unfolding labelOf
 labelOf-lt h m g b = b
 
-pub messageOf-lt : (h m l : ℕ) → l < labels h m → messageOf h m l < 2 ^ messageBits h m
+pub messageOf-lt : (h m l : ℕ) → l < labels h m → messageOf h m l < messages h m
 unfolding messageOf
 messageOf-lt h m l b = b

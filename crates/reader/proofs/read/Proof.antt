@@ -1,7 +1,7 @@
 -- `reader::read` meets its contract: each test refuses by the table, in its order, and the search answers what is left.
 -- Assumes nothing.
 use Prim.Native.Nat.{ℕ}
-use mathlib.Core.Path.{_≡_, sym, _∙_, ap}
+use mathlib.Core.Path.{_≡_, refl, sym, _∙_, ap}
 use mathlib.Core.Bool.{true}
 use mathlib.Core.Option.{none}
 use lib.ListN.{length}
@@ -21,7 +21,7 @@ in-shape-requires : tie.Need-in-shape-requires
 in-shape-requires c κs = search needs
 
 returns : tie.Need-returns
-returns c = read-shape _ _ _ (sym (c .before .in-shape .ensures) ∙ not-true _ (c .if1 .taken))
+returns c = (read-shape _ _ _ (sym (c .before .in-shape .ensures) ∙ not-true _ (c .if1 .taken)), refl)
 
 power-requires : tie.Need-power-requires
 power-requires c κs = search needs
@@ -42,7 +42,10 @@ carriers-is c =
     c .power .ensures ∙ power-carriers (args .h) (args .m) (shaped (c .before))
 
 returns-2 : tie.Need-returns-2
-returns-2 c = read-length _ _ _ (shaped (c .before .before)) (λ e. c .if2 .taken (e ∙ sym (carriers-is (c .before))))
+returns-2 c = (
+  read-length _ _ _ (shaped (c .before .before)) (λ e. c .if2 .taken (e ∙ sym (carriers-is (c .before)))),
+  refl,
+)
 
 power-requires-2 : tie.Need-power-requires-2
 power-requires-2 c κs = search needs
@@ -66,11 +69,12 @@ searched c =
     (c .before .power2 .ensures ∙ power-phases (at .args .h) (at .args .m) (shaped (shape-test (c .before .before))))
 
 returns-3 : tie.Need-returns-3
-returns-3 c =
-    let at-search = c .before .before .before in
-    let at-length = at-search .before .before in
-    read-symbol _ _ _ (shaped (shape-test at-length)) (long at-length) _
-    (sym (ap searchTold (c .before .place .given .1)) ∙ searched at-search)
+returns-3 c = let at-search = c .before .before .before in
+    let at-length = at-search .before .before in (
+      read-symbol _ _ _ (shaped (shape-test at-length)) (long at-length) _
+          (sym (ap searchTold (c .before .place .given .1)) ∙ searched at-search),
+      refl,
+    )
 
 enum-told : tie.Need-enum-told
 enum-told c = search needs
@@ -94,9 +98,8 @@ search-requires c κs =
     }
 
 returns-4 : tie.Need-returns-4
-returns-4 c =
-    let at-length = length-test (c .before) in
-    c .search .ensures ∙ read-search _ _ _ (shaped (shape-test at-length)) (long at-length) (good (c .before))
+returns-4 c = let at-length = length-test (c .before) in
+    (c .search .ensures ∙ read-search _ _ _ (shaped (shape-test at-length)) (long at-length) (good (c .before)), refl)
 
 pub read-spec : {M : Type 1} → statement M
 read-spec =

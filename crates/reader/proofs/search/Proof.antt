@@ -11,7 +11,7 @@ use lib.Pow.{pow-mono}
 use denote.Ref.{now}
 use borrow.Author.Count.{below-none, below-more}
 use borrow.Author.Needs.{needs}
-use Rattle.rules.specs.Shape.{phases, pathsInUse, messageBits}
+use Rattle.rules.specs.Shape.{phases, pathsInUse, messageBits, messages}
 use Rattle.rules.specs.Label.{labels, messageOf}
 use Rattle.rules.specs.Word.{wordOf}
 use Rattle.rules.specs.Table.{messageWith}
@@ -103,10 +103,10 @@ message-is : (c : tie.After-message-of Inv-loop μ-loop) → let args = start (c
 message-is c = c .message-of .ensures ∙ ap (messageOf _ _) (c .before .before .loop .inv .1)
 
 message-lt : (c : tie.After-message-of Inv-loop μ-loop) → let args = start (c .before .before) .args in
-    c .message-of .result .0 < 2 ^ messageBits (args .h) (args .m)
+    c .message-of .result .0 < messages (args .h) (args .m)
 message-lt c =
     let args = start (c .before .before) .args in
-    subst (λ (g : ℕ). g < 2 ^ messageBits (args .h) (args .m)) (sym (message-is c))
+    subst (λ (g : ℕ). g < messages (args .h) (args .m)) (sym (message-is c))
     (messageOf-lt (args .h) (args .m) _ (label-lt (c .before)))
 
 is-word-requires : tie.Need-is-word-requires Inv-loop μ-loop

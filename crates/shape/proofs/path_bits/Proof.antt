@@ -3,10 +3,9 @@
 use Prim.Native.Nat.{ℕ, _-_}
 use native.Mathlib.Omega.{arith}
 use mathlib.Core.Path.{_≡_, refl, sym, ap}
-use mathlib.Core.List.{[], _∷_}
 use lib.ListN.{getD, List·getD-eq-default}
 use borrow.Author.Needs.{needs}
-use Rattle.rules.specs.Shape.{pathBits}
+use Rattle.rules.specs.Shape.{pathWidths, pathBits}
 use Rattle.shape.proofs.path_bits.Statement.{statement}
 use Rattle.shape.proofs.path_bits.Tie as tie
 
@@ -14,7 +13,7 @@ returns : tie.Need-returns
 unfolding pathBits
 returns c =
     let e : c .before .args .m - 2 ≡ 0 = omega (arith, c .if1 .taken) in
-    sym (ap (λ (i : ℕ). getD (0 ∷ 1 ∷ 3 ∷ 5 ∷ []) i 0) e)
+    sym (ap (λ (i : ℕ). getD pathWidths i 0) e)
 
 cast-at : tie.Need-cast-at
 cast-at c = search needs
@@ -34,7 +33,7 @@ returns-2 c = refl
 
 returns-3 : tie.Need-returns-3
 unfolding pathBits
-returns-3 c = sym (List·getD-eq-default (0 ∷ 1 ∷ 3 ∷ 5 ∷ []) 0 (c .if2 .left))
+returns-3 c = sym (List·getD-eq-default pathWidths 0 (c .if2 .left))
 
 pub path-bits-spec : {M : Type 1} → statement M
 path-bits-spec = tie.close (tie.spec returns cast-at sub-if2 mul-result array-read-result returns-2 returns-3)
