@@ -19,9 +19,9 @@ use Rattle.rules.specs.Word.{links, wordAt, partnerAt, wordOf, partnerOf}
 use Rattle.rules.proofs.Range.{InRange, range-inM, phases-by-two, phases-most, carriers-most}
 use Rattle.paths.specs.Steps.{pathRow}
 use Rattle.paths.proofs.Members.{isPath-in}
-use Rattle.words.proofs.Labels.{labelPath-lt, coefficient-lt, constant-lt}
+use Rattle.words.proofs.Labels.{coefficient-lt, constant-lt}
 use Rattle.words.proofs.Forms.{formAt-rows, partnerAt-form}
-use Rattle.words.proofs.Used.{used-isPath}
+use Rattle.words.proofs.Used.{labelPath-isPath}
 use Rattle.words.proofs.Partners.{headOf-at}
 use Rattle.encoder.specs.Steps.{generatorRows, cell, linearOf, linksOf, symbolOf, liftedAt, Cells, Small, Walk}
 use Rattle.encoder.proofs.Matrix.{generatorAt-digit, generatorRows-at, generatorRows-cells}
@@ -47,7 +47,7 @@ module _ (h m l : ℕ) (range : InRange h m) (used : l < labels h m) where
   path = pathAt m (labelPath h m l)
 
   path-is : IsPath m path
-  path-is = used-isPath m (labelPath h m l) (range-inM h m range) (labelPath-lt h m l used)
+  path-is = labelPath-isPath h m l (range-inM h m range) used
 
   -- the steps as code holds them
   step-at : (k : ℕ) → k < m → getD (pathRow m (labelPath h m l)) k 0 ≡ getD path k 0

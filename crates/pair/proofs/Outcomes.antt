@@ -12,10 +12,9 @@ use Rattle.rules.specs.Shape.{inShape, phases, carriers}
 use Rattle.rules.specs.Pair.{golayPair}
 use Rattle.rules.specs.Word.{symbolAt}
 use Rattle.rules.specs.Outcome.{gives, refuses, refuseAt}
-use Rattle.rules.specs.Table.{badSymbol}
+use Rattle.rules.specs.Table.{badSymbol, firstBad}
 use Rattle.rules.specs.Refusal.{pairOutcome}
 use Rattle.rules.proofs.Range.{inShape-range}
-use Rattle.shape.specs.Symbols.{firstBad}
 use Rattle.shape.proofs.SymbolLaws.{firstBad-none}
 use Rattle.pair.specs.Words.{SymbolsBelow, Words}
 

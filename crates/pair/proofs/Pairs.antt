@@ -1,6 +1,6 @@
 -- Laws of the pair check. In order: the test of a pair is the claim; no word is a pair with itself.
 -- Assumes nothing.
-use mathlib.Core.Path.{_≡_, refl, sym, ap}
+use mathlib.Core.Path.{_≡_, sym, ap}
 use mathlib.Core.Bool.{true, false}
 use mathlib.Core.Logic.{_↔_}
 use Prim.Native.Nat.{ℕ, zero, suc, _+_, _-_, _%_, _≤_, _<_}
@@ -13,9 +13,8 @@ use Rattle.range.specs.Below.{sumBelow, countBelow, oneIf}
 use Rattle.range.proofs.Tests.{allBelow-of, allBelow-at, allBelow-not}
 use Rattle.range.proofs.FromOne.{fromOne-of, fromOne-at, fromOne-not}
 use Rattle.rules.specs.Shape.{phases, halfTurn, carriers}
-use Rattle.rules.specs.Pair.{minus, phaseCount, pairCount, GolayPair, golayPair}
+use Rattle.rules.specs.Pair.{minus, phaseCount, pairCount, GolayPair, golayPair, phasesAgree}
 use Rattle.rules.proofs.Turns.{halfTurn-moves}
-use Rattle.pair.specs.Words.{phasesAgree}
 
 module _ (h m : ℕ) (a b : ℕ → ℕ) where
   pub golayPair-at : golayPair h m a b ≡ true → GolayPair h m a b

@@ -7,11 +7,11 @@ ghost use mathlib.Core.Path.{_≡_};
 ghost use Prim.Native.Nat.{ℕ, _≤_};
 ghost use lib.ListN.{length};
 ghost use Rattle.rules.specs.Shape.{carriers};
-ghost use Rattle.rules.specs.Pair.{phaseCount, pairCount, golayPair};
+ghost use Rattle.rules.specs.Pair.{phaseCount, pairCount, golayPair, phasesAgree};
 ghost use Rattle.rules.specs.Word.{symbolAt};
 ghost use Rattle.rules.specs.Refusal.{pairOutcome};
 ghost use Rattle.pair.specs.Told.{pairedTold};
-ghost use Rattle.pair.specs.Words.{SymbolsBelow, Words, phasesAgree};
+ghost use Rattle.pair.specs.Words.{SymbolsBelow, Words};
 
 // Which word a refusal speaks of: kinds 1 and 2 speak of either, kind 3 of one.
 pub enum Which {

@@ -5,7 +5,7 @@
 use Prim.Native.Nat.{ℕ, zero, suc, _<_, suc-le-suc}
 use native.Mathlib.Decide.{decLt}
 use native.Mathlib.Omega.{arith}
-use mathlib.Core.Path.{_≡_, refl, sym}
+use mathlib.Core.Path.{_≡_, sym}
 use mathlib.Core.Bool.{not}
 use mathlib.Core.List.{List, [], _∷_, map, flatMap, List·Memᴰ, List·Memᴰ·not-nil, Memᴰ·of-map}
 use lib.Dec.{eqb, ltb}
@@ -62,9 +62,6 @@ paths-increasing m i j l h = sorted-at Before (paths m) [] i j (paths-sorted m) 
 pub before-distinct : {p q : List ℕ} → Before p q → p ≡ q → ⊥
 before-distinct (here {x = x} {y = y} l) e = let s : x ≡ y = cc in omega arith
 before-distinct (later {xs = xs} {ys = ys} b) e = before-distinct b (cc)
-
-pub before-irrefl : (p : List ℕ) → Before p p → ⊥
-before-irrefl p b = before-distinct b refl
 
 pub pathAt-inj : (m i j : ℕ) → i < length (paths m) → j < length (paths m) → pathAt m i ≡ pathAt m j → i ≡ j
 pathAt-inj m i j a b e = at (decLt i j) (decLt j i)

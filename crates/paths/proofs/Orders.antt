@@ -68,11 +68,6 @@ isOrder-orders (suc n) xs (x ∷ q) l u r =
     let t = isOrder-orders n (without x xs) q (long-without n x xs o l) (distinct-without x xs u) c in
     mem-flatMap (λ y. map (λ s. y ∷ s) (orders n (without y xs))) x (x ∷ q) xs i (Memᴰ·map (λ s. x ∷ s) t)
 
--- p is an order of xs exactly when it is as long and each number stands in it as often as in xs
-pub orders-iff : (n : ℕ) (xs p : List ℕ) → length xs ≡ n → Distinct xs →
-    (List·Memᴰ p (orders n xs) → IsOrder xs p) × (IsOrder xs p → List·Memᴰ p (orders n xs))
-orders-iff n xs p l u = (orders-isOrder n xs p l u, isOrder-orders n xs p l u)
-
 order-put : (x : ℕ) (xs p : List ℕ) → times x p ≡ 1 → IsOrder xs (without x p) → IsOrder (x ∷ xs) p
 unfolding times
 order-put x xs p o r = record {

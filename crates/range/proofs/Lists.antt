@@ -1,5 +1,5 @@
--- Laws of listBelow. In order: its length, its elements, one more at the end, equal elements, a list as its own
--- elements, a list filled from the front, rows end to end.
+-- Laws of listBelow. In order: its length, its elements, one more at the end, equal elements, a list filled
+-- from the front, rows end to end.
 -- Not here: sums and counts (Sums), tests and searches (Tests).  Assumes nothing.
 use Prim.Native.Nat.{ℕ, zero, suc, _+_, _<_, zero-le, suc-le-suc}
 use native.Mathlib.Nat.{zero-add, not-suc-le-zero, le-of-suc-le-suc}
@@ -34,11 +34,6 @@ module _ {A : Type 0} where
   listBelow-cong (suc n) f g e =
       let rest = listBelow-cong n (λ i. f (suc i)) (λ i. g (suc i)) (λ i h. e (suc i) (suc-le-suc h)) in
       rw (e zero (suc-le-suc zero-le), rest)
-
-  pub listBelow-getD : (xs : List A) (d : A) → listBelow (length xs) (λ i. getD xs i d) ≡ xs
-  unfolding listBelow
-  listBelow-getD [] d = refl
-  listBelow-getD (x ∷ xs) d = ap (λ (t : List A). x ∷ t) (listBelow-getD xs d)
 
   -- a list filled from the front: the first i elements are f's, the others are d's own
   abbrev pub filled : ℕ → (ℕ → A) → List A → List A

@@ -1,12 +1,11 @@
 -- Laws of sumBelow and countBelow. In order: one more summand at the end; equal summands; zeros, all or all but one;
--- sums of sums; multiples; a bound; the same of counts; one turn of a loop that adds up or counts; what lies below the
--- whole sum.
+-- a bound; the same of counts; one turn of a loop that adds up; what lies below the whole sum.
 -- Not here: tests and searches (Tests), lists (Lists).  Assumes nothing.
 use Prim.Native.Nat.{ℕ, zero, suc, _+_, _*_, _≤_, _<_, zero-le, suc-le-suc}
-use native.Mathlib.Nat.{zero-add, add-zero, mul-add, mul-zero, le-refl, suc-mul, not-suc-le-zero, le-of-suc-le-suc}
+use native.Mathlib.Nat.{zero-add, add-zero, le-refl, suc-mul, not-suc-le-zero, le-of-suc-le-suc}
 use native.Mathlib.Numerals.{add-one}
 use native.Mathlib.Omega.{arith}
-use mathlib.Core.Path.{_≡_, refl, sym, _∙_, ap}
+use mathlib.Core.Path.{_≡_, refl, _∙_}
 use mathlib.Core.Logic.{_≢_}
 use mathlib.Core.Bool.{Bool, true, false}
 use Rattle.range.specs.Below.{sumBelow, countBelow, oneIf}
@@ -40,18 +39,6 @@ sumBelow-only (suc n) (suc k) f l e =
     rw (e 0 (omega arith) (omega arith)) (zero-add _ ∙ sumBelow-only n k (λ i. f (suc i)) (omega arith)
     (λ i b d. e (suc i) (suc-le-suc b) (omega arith)))
 
-pub sumBelow-add : (n : ℕ) (f g : ℕ → ℕ) → sumBelow n (λ i. f i + g i) ≡ sumBelow n f + sumBelow n g
-unfolding sumBelow
-sumBelow-add zero f g = refl
-sumBelow-add (suc n) f g = omega (arith, sumBelow-add n (λ i. f (suc i)) (λ i. g (suc i)))
-
-pub sumBelow-mul : (n a : ℕ) (f : ℕ → ℕ) → sumBelow n (λ i. a * f i) ≡ a * sumBelow n f
-unfolding sumBelow
-sumBelow-mul zero a f = sym (mul-zero a)
-sumBelow-mul (suc n) a f =
-    ap (λ (s : ℕ). a * f zero + s) (sumBelow-mul n a (λ i. f (suc i)))
-    ∙ sym (mul-add a (f zero) (sumBelow n (λ i. f (suc i))))
-
 -- a bound on each summand bounds the sum
 pub sumBelow-le : (n b : ℕ) (f : ℕ → ℕ) → ((i : ℕ) → i < n → f i ≤ b) → sumBelow n f ≤ n * b
 unfolding sumBelow
@@ -64,10 +51,6 @@ pub countBelow-suc : (n : ℕ) (f : ℕ → Bool) → countBelow (suc n) f ≡ c
 unfolding countBelow
 countBelow-suc n f = sumBelow-suc n (λ i. oneIf (f i))
 
-pub countBelow-cong : (n : ℕ) (f g : ℕ → Bool) → ((i : ℕ) → i < n → f i ≡ g i) → countBelow n f ≡ countBelow n g
-unfolding countBelow
-countBelow-cong n f g e = sumBelow-cong n (λ i. oneIf (f i)) (λ i. oneIf (g i)) (λ i h. ap oneIf (e i h))
-
 pub oneIf-le : (b : Bool) → oneIf b ≤ 1
 oneIf-le true = le-refl 1
 oneIf-le false = zero-le
@@ -79,11 +62,6 @@ countBelow-le n f = omega (arith, sumBelow-le n 1 (λ i. oneIf (f i)) (λ i _. o
 -- one turn of a loop that adds up
 pub sumBelow-turn : (i s v : ℕ) (f : ℕ → ℕ) → s ≡ sumBelow i f → v ≡ f i → s + v ≡ sumBelow (i + 1) f
 sumBelow-turn i s v f p q = rw (add-one, sumBelow-suc i f, p, q)
-
--- one turn of a loop that counts
-pub countBelow-turn : (i s v : ℕ) (f : ℕ → Bool) → s ≡ countBelow i f → v ≡ oneIf (f i) → s + v ≡ countBelow (i + 1) f
-unfolding countBelow
-countBelow-turn i s v f p q = sumBelow-turn i s v (λ k. oneIf (f k)) p q
 
 -- x of the summand at j lies below the whole sum
 pub sumBelow-lt : (n : ℕ) (f : ℕ → ℕ) (j x : ℕ) → j < n → x < f j → sumBelow j f + x < sumBelow n f

@@ -1,10 +1,10 @@
 -- Laws of allBelow and firstBelow. In order: both sides of a conjunction, a test not passed; all, from each place,
--- at each place, one more, equal tests, refuted; the first, found, not found, and back.
+-- at each place, refuted; the first, found, not found, and back.
 -- Not here: sums and counts (Sums), lists (Lists).  Assumes nothing.
 use Prim.Native.Nat.{ℕ, zero, suc, _<_, zero-le, suc-le-suc}
 use native.Mathlib.Nat.{not-suc-le-zero, le-of-suc-le-suc}
-use mathlib.Core.Path.{_≡_, refl, sym, _∙_, ap, subst}
-use mathlib.Core.Bool.{Bool, true, false, _&&_, false≢true, and-true, and-assoc}
+use mathlib.Core.Path.{_≡_, refl, sym, _∙_, subst}
+use mathlib.Core.Bool.{Bool, true, false, _&&_, false≢true}
 use mathlib.Core.Option.{Option, none, some}
 use Rattle.range.specs.Below.{allBelow, firstBelow, zeroOr}
 
@@ -38,20 +38,6 @@ allBelow-at zero f e i h = absurd (not-suc-le-zero h)
 allBelow-at (suc n) f e zero h = and-left (f zero) (allBelow n (λ k. f (suc k))) e
 allBelow-at (suc n) f e (suc i) h =
     allBelow-at n (λ k. f (suc k)) (and-right (f zero) (allBelow n (λ k. f (suc k))) e) i (le-of-suc-le-suc h)
-
-pub allBelow-suc : (n : ℕ) (f : ℕ → Bool) → allBelow (suc n) f ≡ (allBelow n f && f n)
-unfolding allBelow
-allBelow-suc zero f = and-true (f zero)
-allBelow-suc (suc n) f =
-    ap (λ (b : Bool). f zero && b) (allBelow-suc n (λ i. f (suc i)))
-    ∙ sym (and-assoc (f zero) (allBelow n (λ i. f (suc i))) (f (suc n)))
-
-pub allBelow-cong : (n : ℕ) (f g : ℕ → Bool) → ((i : ℕ) → i < n → f i ≡ g i) → allBelow n f ≡ allBelow n g
-unfolding allBelow
-allBelow-cong zero f g e = refl
-allBelow-cong (suc n) f g e =
-    let rest = allBelow-cong n (λ i. f (suc i)) (λ i. g (suc i)) (λ i h. e (suc i) (suc-le-suc h)) in
-    rw (e zero (suc-le-suc zero-le), rest)
 
 pub allBelow-not : (n : ℕ) (f : ℕ → Bool) (i : ℕ) → i < n → f i ≡ false → allBelow n f ≡ false
 allBelow-not n f i h e = false-of-not-true (allBelow n f) (λ a. false≢true (sym e ∙ allBelow-at n f a i h))

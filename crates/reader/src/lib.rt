@@ -4,7 +4,7 @@ use kinds::MessageNumber;
 use kinds::Refusal;
 use kinds::Search;
 use shape::PLACES;
-ghost use Prim.Native.Nat.{_^_, _<_};
+ghost use Prim.Native.Nat.{_<_};
 ghost use mathlib.Core.Path.{_≡_};
 ghost use mathlib.Core.Bool.{true};
 ghost use lib.ListN.{length};

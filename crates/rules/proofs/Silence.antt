@@ -76,5 +76,5 @@ pub greatest-of-zeros : (h m : ℕ) → 1 ≤ h →
     Greatest h m (replicate (softLength h m) (pos 0)) (labelOf h m 0) (pos 0) true
 unfolding zeros
 greatest-of-zeros h m one =
-    rw (labelOf-zero h m) (best-of-equal (labels h m) leZ (correlation h m (zeros (softLength h m))) (pos 0) (labels-two h m one)
-    (λ l. correlation-zero h m (softLength h m) l) tt)
+    rw (labelOf-zero h m) (best-of-equal (labels h m) leZ (correlation h m (zeros (softLength h m))) (pos 0)
+    (labels-two h m one) (λ l. correlation-zero h m (softLength h m) l) tt)

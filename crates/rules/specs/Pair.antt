@@ -6,7 +6,8 @@
 --           pairCount h n a b u k  the same, over both words together
 --           GolayPair h m a b      for each shift u from 1 to N - 1 and each phase k the count for k equals the count
 --                                  for k + 2^(h-1)
---           golayPair h m a b      the test of that
+--           phasesAgree h n a b u  whether at shift u the count for each phase equals the count half a turn on
+--           golayPair h m a b      the test of a pair: they agree at every shift
 -- Law: golayPair-iff in crate pair (the test is the claim).  Assumes nothing: these are definitions.
 use Prim.Native.Nat.{ℕ, suc, _+_, _-_, _%_, _≤_, _<_}
 use mathlib.Core.Path.{_≡_}
@@ -29,8 +30,8 @@ GolayPair h m a b =
     (u : ℕ) → 1 ≤ u → u < carriers m → (k : ℕ) → k < phases h →
     pairCount h (carriers m) a b u k ≡ pairCount h (carriers m) a b u (k + halfTurn h)
 
+abbrev pub phasesAgree : ℕ → ℕ → (ℕ → ℕ) → (ℕ → ℕ) → ℕ → Bool
+phasesAgree h n a b u = allBelow (phases h) λ k. eqb (pairCount h n a b u k) (pairCount h n a b u (k + halfTurn h))
+
 unfoldable pub golayPair : ℕ → ℕ → (ℕ → ℕ) → (ℕ → ℕ) → Bool
-golayPair h m a b =
-    allBelow (carriers m - 1) λ u.
-    allBelow (phases h) λ k.
-    eqb (pairCount h (carriers m) a b (suc u) k) (pairCount h (carriers m) a b (suc u) (k + halfTurn h))
+golayPair h m a b = allBelow (carriers m - 1) λ u. phasesAgree h (carriers m) a b (suc u)

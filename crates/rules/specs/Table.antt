@@ -2,6 +2,7 @@
 -- Defines:  badShape, badLength, badMessage, octary          1, 2, 4, 6: whether they are given
 --           shortArea                                        2 for an area of the transform
 --           badSymbol, badValue                              3, 7: the first bad place, if there is one
+--           firstBad q w                                     the first place of w whose symbol is q or more
 --           messageWith                                      5: the message whose word the symbols are, if there is one
 -- Assumes nothing: these are definitions.
 use Prim.Native.Nat.{ℕ}
@@ -29,8 +30,11 @@ abbrev pub shortArea : ℕ → ℕ → Bool
 shortArea n m = ltb n (carriers m)
 
 -- 3 symbol: one is 2^h or more
+abbrev pub firstBad : ℕ → List ℕ → Option ℕ
+firstBad q w = firstBelow (length w) (λ i. leb q (symbolAt w i))
+
 unfoldable pub badSymbol : ℕ → List ℕ → Option ℕ
-badSymbol h w = firstBelow (length w) (λ i. leb (phases h) (symbolAt w i))
+badSymbol h w = firstBad (phases h) w
 
 -- 4 message: the message number needs more than its bits
 abbrev pub badMessage : ℕ → ℕ → ℕ → Bool

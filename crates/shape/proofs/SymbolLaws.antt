@@ -1,17 +1,15 @@
--- Laws of firstBad: where nothing is found every symbol is below q, and what is found is the first that is not; with 2^h for q it is the table's test of symbols.
+-- Laws of firstBad: where nothing is found every symbol is below q, and what is found is the first that is not.
 -- Assumes nothing.
 use Prim.Native.Nat.{ℕ, _≤_, _<_}
-use mathlib.Core.Path.{_≡_, refl, sym}
+use mathlib.Core.Path.{_≡_, sym}
 use mathlib.Core.List.{List}
 use mathlib.Core.Option.{none, some}
 use lib.Dec.{leb}
 use lib.ListN.{length}
 use borrow.Author.Tests.{leb-true, leb-false}
 use Rattle.range.proofs.Tests.{firstBelow-at, firstBelow-nowhere}
-use Rattle.rules.specs.Shape.{phases}
 use Rattle.rules.specs.Word.{symbolAt}
-use Rattle.rules.specs.Table.{badSymbol}
-use Rattle.shape.specs.Symbols.{firstBad}
+use Rattle.rules.specs.Table.{firstBad}
 
 pub firstBad-none : (q : ℕ) (w : List ℕ) → none ≡ firstBad q w → (i : ℕ) → i < length w → symbolAt w i < q
 firstBad-none q w e i h =
@@ -22,7 +20,3 @@ pub firstBad-some : (q : ℕ) (w : List ℕ) (i : ℕ) → some i ≡ firstBad q
 firstBad-some q w i e =
     let f = firstBelow-at (length w) (λ k. leb q (symbolAt w k)) i (sym e) in
     (f .0, (leb-true _ _ (f .1 .0), λ j l. leb-false _ _ (f .1 .1 j l)))
-
-pub firstBad-phases : (h : ℕ) (w : List ℕ) → firstBad (phases h) w ≡ badSymbol h w
-unfolding badSymbol
-firstBad-phases h w = refl

@@ -12,9 +12,8 @@ ghost use lib.Dec.{ltb};
 ghost use Rattle.rules.specs.Shape.{pathBits, inShape};
 ghost use Rattle.rules.specs.Label.{labelOf, messageOf};
 ghost use Rattle.rules.specs.Pair.{minus};
-ghost use Rattle.rules.specs.Table.{badMessage};
+ghost use Rattle.rules.specs.Table.{badMessage, firstBad};
 ghost use Rattle.kinds.specs.Told.{searchTold};
-ghost use Rattle.shape.specs.Symbols.{firstBad};
 
 pub const GREATEST_H: u32 = 3;
 

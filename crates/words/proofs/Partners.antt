@@ -16,9 +16,9 @@ use Rattle.rules.proofs.Range.{inM-least}
 use Rattle.rules.proofs.Turns.{halfTurn-moves}
 use Rattle.paths.proofs.Members.{isPath-in}
 use Rattle.words.proofs.Digits.{one-lt, digit-one-at}
-use Rattle.words.proofs.Labels.{labelPath-lt, labelOf-lt}
+use Rattle.words.proofs.Labels.{labelOf-lt}
 use Rattle.words.proofs.Forms.{wordAt-lt, wordOf-at, partnerOf-at}
-use Rattle.words.proofs.Used.{used-isPath}
+use Rattle.words.proofs.Used.{labelPath-isPath}
 
 -- the first of a list is its element at 0
 pub headOf-at : (p : List ℕ) → headOf p ≡ getD p 0 0
@@ -31,7 +31,7 @@ module _ (h m l : ℕ) (one : 1 ≤ h) (range : T (inM m)) (used : l < labels h 
   first = headOf (pathAt m (labelPath h m l))
 
   path-is : IsPath m (pathAt m (labelPath h m l))
-  path-is = used-isPath m (labelPath h m l) range (labelPath-lt h m l used)
+  path-is = labelPath-isPath h m l range used
 
   first-in : (1 ≤ first) × (first ≤ m)
   first-in =

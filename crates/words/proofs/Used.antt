@@ -26,5 +26,8 @@ pub used-good : (m n : ℕ) → T (inM m) → n < pathsInUse m → Good m (pathA
 used-good m n range h = isPath-good m (pathAt m n) (used-isPath m n range h)
 
 -- the path of a label of the shape
+pub labelPath-isPath : (h m l : ℕ) → T (inM m) → l < labels h m → IsPath m (pathAt m (labelPath h m l))
+labelPath-isPath h m l range b = used-isPath m (labelPath h m l) range (labelPath-lt h m l b)
+
 pub labelPath-good : (h m l : ℕ) → T (inM m) → l < labels h m → Good m (pathAt m (labelPath h m l))
-labelPath-good h m l range b = used-good m (labelPath h m l) range (labelPath-lt h m l b)
+labelPath-good h m l range b = isPath-good m (pathAt m (labelPath h m l)) (labelPath-isPath h m l range b)

@@ -11,9 +11,8 @@ use borrow.Author.Count.{below-more}
 use borrow.Author.Needs.{needs}
 use borrow.Author.Tests.{not-true, not-false}
 use Rattle.range.proofs.FromOne.{fromOne-of, fromOne-not}
-use Rattle.rules.specs.Pair.{golayPair}
+use Rattle.rules.specs.Pair.{golayPair, phasesAgree}
 use Rattle.rules.specs.Word.{symbolAt}
-use Rattle.pair.specs.Words.{phasesAgree}
 use Rattle.pair.proofs.all_shifts.Statement.{statement}
 use Rattle.pair.proofs.all_shifts.Tie as tie
 

@@ -11,7 +11,7 @@ use Rattle.rules.specs.Shape.{inShape, carriers}
 use Rattle.rules.specs.Outcome.{gives}
 use Rattle.rules.specs.Refusal.{pairOutcome}
 use Rattle.kinds.specs.Told.{searchTold}
-use Rattle.shape.specs.Symbols.{firstBad}
+use Rattle.rules.specs.Table.{firstBad}
 use Rattle.shape.proofs.Powers.{power-phases, power-carriers}
 use Rattle.pair.proofs.Outcomes.{
   pair-shape,
