@@ -8,20 +8,30 @@ use mathlib.Core.List.{List}
 use lib.ListN.{getD}
 use Rattle.range.specs.Below.{sumBelow}
 use Rattle.range.proofs.Sums.{sumBelow-le}
-use Rattle.rules.specs.Shape.{greatestM, carriers}
+use Rattle.rules.specs.Shape.{greatestM, carriers, greatestH, phases}
 use Rattle.encoder.specs.Steps.{cell, linearOf, linksOf, Cells, Small, Walk}
+
+-- the greatest term, sum of terms and sum of links of a shape in range
+abbrev pub mostTerm : ℕ
+mostTerm = phases greatestH - 1
+
+abbrev pub mostLinear : ℕ
+mostLinear = (greatestM + 1) * mostTerm
+
+abbrev pub mostLinks : ℕ
+mostLinks = greatestM - 1
 
 module _ (m : ℕ) (g : List (List ℕ)) (cells : Cells m g) (i : ℕ) (inside : i < carriers greatestM) where
   module _ (c : List ℕ) (small : Small m c) where
-    pub term-le : (r : ℕ) → r ≤ m → getD c r 0 * cell g r i ≤ 7
+    pub term-le : (r : ℕ) → r ≤ m → getD c r 0 * cell g r i ≤ mostTerm
     term-le r h =
-        mul-le-mul {n₁ = getD c r 0} {m₁ = cell g r i} {n₂ = 7} {m₂ = 1}
+        mul-le-mul {n₁ = getD c r 0} {m₁ = cell g r i} {n₂ = mostTerm} {m₂ = 1}
         (omega (arith, small .small r h)) (cells .cells r i h inside)
 
-    pub terms-le : (r : ℕ) → r ≤ m + 1 → sumBelow r (λ k. getD c k 0 * cell g k i) ≤ r * 7
-    terms-le r h = sumBelow-le r 7 (λ k. getD c k 0 * cell g k i) (λ k l. term-le k (omega arith))
+    pub terms-le : (r : ℕ) → r ≤ m + 1 → sumBelow r (λ k. getD c k 0 * cell g k i) ≤ r * mostTerm
+    terms-le r h = sumBelow-le r mostTerm (λ k. getD c k 0 * cell g k i) (λ k l. term-le k (omega arith))
 
-    pub linearOf-le : linearOf g c m i ≤ 42
+    pub linearOf-le : linearOf g c m i ≤ mostLinear
     unfolding linearOf
     linearOf-le = omega (arith, terms-le (m + 1) (le-refl (m + 1)), cells .most)
 
@@ -36,7 +46,7 @@ module _ (m : ℕ) (g : List (List ℕ)) (cells : Cells m g) (i : ℕ) (inside :
     linkSum-le n h =
         sumBelow-le n 1 (λ k. cell g (getD p k 0) i * cell g (getD p (k + 1) 0) i) (λ k l. link-le k (omega arith))
 
-    pub linksOf-le : linksOf g p m i ≤ 4
+    pub linksOf-le : linksOf g p m i ≤ mostLinks
     unfolding linksOf
     linksOf-le = omega (arith, linkSum-le (m - 1) (le-refl (m - 1)), cells .most)
 

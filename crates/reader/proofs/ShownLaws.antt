@@ -26,7 +26,7 @@ use Rattle.rules.specs.Word.{wordAt, wordOf}
 use Rattle.rules.specs.Pair.{minus}
 use Rattle.rules.specs.Word.{symbolAt}
 use Rattle.rules.specs.Table.{messageWith}
-use Rattle.rules.proofs.Range.{InRange, inShape-range, range-inM, coefficientBits-le}
+use Rattle.rules.proofs.Range.{InRange, inShape-range, range-inM, coefficientBits-le, mostCoefficientBits}
 use Rattle.words.proofs.Digits.{one-lt}
 use Rattle.words.proofs.Labels.{phases-pow, numberOf, numberOf-lt, numberOf-back, labelPath-lt, labelOf-lt}
 use Rattle.words.proofs.Labels.{messageOf-labelOf}
@@ -58,10 +58,10 @@ shownUpTo-lt h m w zero = rw pow-zero (le-refl 1)
 shownUpTo-lt h m w (suc k) = rw (pow-suc (phases h) k) (digits-lt (shownUpTo-lt h m w k) (shown-lt h m w (suc k)))
 
 -- the number that is read stays far below the width of the code's numbers
-pub shownUpTo-small : (h m : ℕ) (w : List ℕ) (k : ℕ) → InRange h m → k ≤ m → shownUpTo h m w k < 2 ^ 18
+pub shownUpTo-small : (h m : ℕ) (w : List ℕ) (k : ℕ) → InRange h m → k ≤ m → shownUpTo h m w k < 2 ^ mostCoefficientBits
 shownUpTo-small h m w k range b =
     lt-of-lt-of-le (shownUpTo-lt h m w k)
-    (rw (phases-pow h k) (pow-mono {i = h * k} {j = 18}
+    (rw (phases-pow h k) (pow-mono {i = h * k} {j = mostCoefficientBits}
     (omega (arith, coefficientBits-le h m range, mul-le-mul-left {m = k} {n = m + 1} h (omega arith)))))
 
 labelWith-is : (h m : ℕ) (w : List ℕ) (n : ℕ) → labelWith h m w n ≡ numberOf h m n (shown h m w) (symbolAt w 0)

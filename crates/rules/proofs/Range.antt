@@ -52,29 +52,39 @@ inM-least m t = leb→le 2 m (T-left (leb 2 m) (leb m greatestM) t)
 pub inM-le : (m : ℕ) → T (inM m) → m ≤ greatestM
 inM-le m t = leb→le m greatestM (T-right (leb 2 m) (leb m greatestM) t)
 
--- no entry of the table is above 5
-entry-test : allBelow (length pathWidths) (λ i. leb (getD pathWidths i 0) 5) ≡ true
+-- what the greatest shape has: w, the bits of the coefficients and the constant, of a message number
+abbrev pub mostPathBits : ℕ
+mostPathBits = getD pathWidths (greatestM - 2) 0
+
+abbrev pub mostCoefficientBits : ℕ
+mostCoefficientBits = greatestH * (greatestM + 1)
+
+abbrev pub mostBits : ℕ
+mostBits = mostPathBits + mostCoefficientBits
+
+-- no entry of the table is above that of the greatest m
+entry-test : allBelow (length pathWidths) (λ i. leb (getD pathWidths i 0) mostPathBits) ≡ true
 unfolding allBelow
 entry-test = refl
 
-entry-le : (i : ℕ) → getD pathWidths i 0 ≤ 5
+entry-le : (i : ℕ) → getD pathWidths i 0 ≤ mostPathBits
 entry-le i = at (decLt i (length pathWidths))
   where
-    at : Dec (i < length pathWidths) → getD pathWidths i 0 ≤ 5
-    at (yes l) = leb-true _ 5 (allBelow-at (length pathWidths) _ entry-test i l)
+    at : Dec (i < length pathWidths) → getD pathWidths i 0 ≤ mostPathBits
+    at (yes l) = leb-true _ mostPathBits (allBelow-at (length pathWidths) _ entry-test i l)
     at (no n) =
         let b : length pathWidths ≤ i = omega arith in
         rw (List·getD-eq-default pathWidths 0 b) (lit≤ tt)
 
-pub pathBits-le : (m : ℕ) → pathBits m ≤ 5
+pub pathBits-le : (m : ℕ) → pathBits m ≤ mostPathBits
 unfolding pathBits
 pathBits-le m = entry-le (m - 2)
 
-pub coefficientBits-le : (h m : ℕ) → InRange h m → h * (m + 1) ≤ greatestH * (greatestM + 1)
+pub coefficientBits-le : (h m : ℕ) → InRange h m → h * (m + 1) ≤ mostCoefficientBits
 coefficientBits-le h m r =
     mul-le-mul {n₁ = h} {m₁ = m + 1} {n₂ = greatestH} {m₂ = greatestM + 1} (r .h-most) (omega (arith, r .m-most))
 
-pub messageBits-le : (h m : ℕ) → InRange h m → messageBits h m ≤ 23
+pub messageBits-le : (h m : ℕ) → InRange h m → messageBits h m ≤ mostBits
 messageBits-le h m r = omega (arith, pathBits-le m, coefficientBits-le h m r)
 
 -- 2^h is twice 2^(h-1)
@@ -95,5 +105,5 @@ phases-most h m r = pow-mono (r .h-most)
 pub carriers-most : (h m : ℕ) → InRange h m → carriers m ≤ carriers greatestM
 carriers-most h m r = pow-mono (r .m-most)
 
-pub pathsInUse-most : (m : ℕ) → pathsInUse m ≤ 32
-pathsInUse-most m = pow-mono {i = pathBits m} {j = 5} (pathBits-le m)
+pub pathsInUse-most : (m : ℕ) → pathsInUse m ≤ 2 ^ mostPathBits
+pathsInUse-most m = pow-mono {i = pathBits m} {j = mostPathBits} (pathBits-le m)

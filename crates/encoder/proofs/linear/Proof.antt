@@ -8,7 +8,7 @@ use borrow.Author.Needs.{needs}
 use Rattle.range.specs.Below.{sumBelow}
 use Rattle.range.proofs.Sums.{sumBelow-turn}
 use Rattle.encoder.specs.Steps.{cell, linearOf}
-use Rattle.encoder.proofs.Bounds.{term-le, terms-le}
+use Rattle.encoder.proofs.Bounds.{term-le, terms-le, mostTerm, mostLinear}
 use Rattle.encoder.proofs.linear.Statement.{statement}
 use Rattle.encoder.proofs.linear.Tie as tie
 
@@ -55,7 +55,7 @@ term : (c : tie.After-at Inv-loop μ-loop) →
 term c = ap (λ (x : ℕ). coefficientAt (start (at-loop c)) (at-loop c .loop .r) * x) (c .at .ensures)
 
 small : (c : tie.After-at Inv-loop μ-loop) →
-    coefficientAt (start (at-loop c)) (at-loop c .loop .r) * c .at .result ≤ 7
+    coefficientAt (start (at-loop c)) (at-loop c .loop .r) * c .at .result ≤ mostTerm
 small c =
     let s = start (at-loop c) in
     omega (
@@ -65,7 +65,7 @@ small c =
           (at-loop c .loop .r) (omega (arith, c .before .loop-test .taken)),
     )
 
-sofar : (c : tie.After-at Inv-loop μ-loop) → at-loop c .loop .sum ≤ 42
+sofar : (c : tie.After-at Inv-loop μ-loop) → at-loop c .loop .sum ≤ mostLinear
 sofar c =
     let s = start (at-loop c) in
     omega (

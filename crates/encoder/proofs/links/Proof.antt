@@ -9,7 +9,7 @@ use Rattle.range.specs.Below.{sumBelow}
 use Rattle.range.proofs.Sums.{sumBelow-turn}
 use Rattle.rules.specs.Shape.{greatestM}
 use Rattle.encoder.specs.Steps.{cell, linksOf}
-use Rattle.encoder.proofs.Bounds.{link-le, linkSum-le}
+use Rattle.encoder.proofs.Bounds.{link-le, linkSum-le, mostLinks}
 use Rattle.encoder.proofs.links.Statement.{statement}
 use Rattle.encoder.proofs.links.Tie as tie
 
@@ -95,7 +95,7 @@ small c =
           (turn c .before .loop .k) (turn c .loop-test .taken),
     )
 
-sofar : (c : tie.After-at2 Inv-loop μ-loop) → turn c .before .loop .sum ≤ 4
+sofar : (c : tie.After-at2 Inv-loop μ-loop) → turn c .before .loop .sum ≤ mostLinks
 sofar c =
     let s = start (turn c) in
     let at-loop = turn c .before .loop in

@@ -6,8 +6,9 @@ use native.Mathlib.Omega.{arith}
 use mathlib.Core.Path.{_≡_, _∙_, ap}
 use lib.ListN.{getD}
 use borrow.Author.Needs.{needs}
+use Rattle.rules.specs.Shape.{greatestH, halfTurn}
 use Rattle.encoder.specs.Steps.{cell, symbolOf}
-use Rattle.encoder.proofs.Bounds.{linearOf-le, linksOf-le, first-le}
+use Rattle.encoder.proofs.Bounds.{linearOf-le, linksOf-le, first-le, mostLinear, mostLinks}
 use Rattle.encoder.proofs.symbol.Statement.{statement}
 use Rattle.encoder.proofs.symbol.Tie as tie
 
@@ -46,29 +47,30 @@ first-is c =
     let args = start c .args in
     c .at .ensures ∙ ap (λ (r : ℕ). cell (args .g) r (args .i)) (c .before .index .ensures)
 
-links-small : (c : tie.After-at) → start c .args .q / 2 * at-links c .links .result ≤ 16
+links-small : (c : tie.After-at) → start c .args .q / 2 * at-links c .links .result ≤ halfTurn greatestH * mostLinks
 links-small c =
     let args = start c .args in
     let pre = start c .pre in
     let most = pre .1 .1 .1 in
     let bound = linksOf-le (args .m) (args .g) (pre .0) (args .i) (most .3) (args .t2) (pre .1 .1 .0) in
-    mul-le-mul {n₁ = args .q / 2} {m₁ = at-links c .links .result} {n₂ = 4} {m₂ = 4}
+    mul-le-mul {n₁ = args .q / 2} {m₁ = at-links c .links .result} {n₂ = halfTurn greatestH} {m₂ = mostLinks}
     (omega (arith, most .1)) (omega (arith, at-links c .links .ensures, bound))
 
-linear-small : (c : tie.After-at) → at-linear c .linear .result ≤ 42
+linear-small : (c : tie.After-at) → at-linear c .linear .result ≤ mostLinear
 linear-small c =
     let args = start c .args in
     let pre = start c .pre in
     let bound = linearOf-le (args .m) (args .g) (pre .0) (args .i) (pre .1 .1 .1 .3) (args .c) (pre .1 .0) in
     omega (arith, at-linear c .linear .ensures, bound)
 
-first-small : (c : tie.After-at) → start c .args .s * c .at .result ≤ 4
+first-small : (c : tie.After-at) → start c .args .s * c .at .result ≤ halfTurn greatestH
 first-small c =
     let args = start c .args in
     let pre = start c .pre in
     let most = pre .1 .1 .1 in
     let bound = first-le (args .m) (args .g) (pre .0) (args .i) (most .3) (args .t2) (pre .1 .1 .0) in
-    mul-le-mul {n₁ = args .s} {m₁ = c .at .result} {n₂ = 4} {m₂ = 1} (most .2) (omega (arith, first-is c, bound))
+    mul-le-mul {n₁ = args .s} {m₁ = c .at .result} {n₂ = halfTurn greatestH} {m₂ = 1} (most .2)
+    (omega (arith, first-is c, bound))
 
 mul-result : tie.Need-mul-result
 mul-result c = omega (arith, links-small c)

@@ -1,17 +1,23 @@
 -- `reader::is_word` meets its contract: the word fits the buffer, whose first places are lent.
 -- Assumes nothing.
-use Prim.Native.Nat.{_≤_}
+use Prim.Native.Nat.{ℕ, _≤_}
 use native.Mathlib.Omega.{arith}
 use mathlib.Core.Path.{sym}
+use mathlib.Core.List.{List}
 use lib.ListN.{length, replicate}
 use lib.Seq.{length-take-le}
 use denote.Ref.{now}
 use borrow.Author.Needs.{needs}
 use Rattle.rules.proofs.Range.{inShape-range, carriers-most}
+use Rattle.rules.specs.Shape.{greatestM, carriers}
 use Rattle.reader.proofs.is_word.Statement.{statement}
 use Rattle.reader.proofs.is_word.Tie as tie
 
-fits : (c : tie.After-shared-slice-known) → length (now (c .before .args .word)) ≤ 32
+-- the buffer as it starts
+abbrev zeros : List ℕ
+zeros = replicate (carriers greatestM) 0
+
+fits : (c : tie.After-shared-slice-known) → length (now (c .before .args .word)) ≤ carriers greatestM
 fits c =
     let args = c .before .args in
     let word = c .before .pre .0 in
@@ -21,11 +27,11 @@ array-borrow-prefix-buffer : tie.Need-array-borrow-prefix-buffer
 array-borrow-prefix-buffer c = fits c
 
 slice-aggregate-compare : tie.Need-slice-aggregate-compare
-slice-aggregate-compare c = sym (length-take-le _ (replicate 32 0) (fits (c .before)))
+slice-aggregate-compare c = sym (length-take-le _ zeros (fits (c .before)))
 
 compare-requires : tie.Need-compare-requires
 compare-requires c κs =
-    (c .before .before .pre .0, (c .before .before .pre .1, length-take-le _ (replicate 32 0) (fits (c .before))))
+    (c .before .before .pre .0, (c .before .before .pre .1, length-take-le _ zeros (fits (c .before))))
 
 returns : tie.Need-returns
 returns c = search needs

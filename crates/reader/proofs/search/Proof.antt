@@ -17,6 +17,7 @@ use Rattle.rules.specs.Word.{wordOf}
 use Rattle.rules.specs.Table.{messageWith}
 use Rattle.rules.specs.Refusal.{orNoWord}
 use Rattle.rules.proofs.Range.{InRange, inShape-range, pathBits-le, coefficientBits-le, messageBits-le}
+use Rattle.rules.proofs.Range.{mostCoefficientBits, mostBits}
 use Rattle.shape.proofs.Powers.{power-is}
 use Rattle.words.proofs.Labels.{phases-pow, messageOf-lt}
 use Rattle.reader.specs.Shown.{labelWith}
@@ -131,10 +132,10 @@ returns : tie.Need-returns Inv-loop μ-loop
 returns c = sym (ap orNoWord (fits c))
 
 -- the step is small
-step-le : (c : tie.After-power Inv-loop μ-loop) → c .power .result ≤ 2 ^ 18
+step-le : (c : tie.After-power Inv-loop μ-loop) → c .power .result ≤ 2 ^ mostCoefficientBits
 step-le c =
     let args = c .before .before .args in
-    subst (λ (x : ℕ). x ≤ 2 ^ 18) (sym (step-is c ∙ phases-pow (args .h) (args .m + 1)))
+    subst (λ (x : ℕ). x ≤ 2 ^ mostCoefficientBits) (sym (step-is c ∙ phases-pow (args .h) (args .m + 1)))
     (pow-mono (coefficientBits-le (args .h) (args .m) (ranged (c .before))))
 
 add-label : tie.Need-add-label Inv-loop μ-loop
@@ -142,7 +143,7 @@ add-label c =
     let turn = at-message (c .before) .before in
     let step = at-step (turn .before) in
     let args = step .before .before .args in
-    let bits : labels (args .h) (args .m) ≤ 2 ^ 23
+    let bits : labels (args .h) (args .m) ≤ 2 ^ mostBits
     = pow-mono (messageBits-le (args .h) (args .m) (ranged (step .before))) in
     omega (arith, turn .before .loop .inv .1, label-lt turn, bits, step-le step)
 
