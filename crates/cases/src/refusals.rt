@@ -15,6 +15,10 @@ pub fn shapes() {
     shape(4, 2);
     shape(2, 1);
     shape(2, 6);
+    shape(63, 2);
+    shape(64, 2);
+    shape(2, 63);
+    shape(2, 64);
     shape(LARGEST_32, 2);
     shape(2, LARGEST_32);
     shape(LARGEST_32, LARGEST_32);
