@@ -1,9 +1,9 @@
 -- Laws of phaseCount. In order: no symbol has another u places before it; a bound; one symbol more, counted or not.
 -- Assumes nothing.
-use mathlib.Core.Path.{_≡_}
 use Prim.Native.Nat.{ℕ, zero, suc, _+_, _-_, _%_, _≤_}
 use native.Mathlib.Nat.{le-trans, sub-le}
 use native.Mathlib.Omega.{arith}
+use mathlib.Core.Path.{_≡_}
 use lib.Dec.{eqb}
 use borrow.Author.Tests.{eq-eqb, ne-eqb}
 use Rattle.range.specs.Below.{sumBelow, countBelow, oneIf}

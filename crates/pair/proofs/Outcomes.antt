@@ -1,11 +1,11 @@
 -- What the pair check is to answer on each way out of the code.
 -- In order: the shape refused; a length; a symbol; what is left to the counts, and what they require.
 -- Assumes nothing.
+use Prim.Native.Nat.{ℕ}
 use mathlib.Core.Path.{_≡_, sym}
 use mathlib.Core.Bool.{true, false}
 use mathlib.Core.List.{List, [], _∷_}
 use mathlib.Core.Option.{none, some}
-use Prim.Native.Nat.{ℕ}
 use lib.ListN.{length}
 use borrow.Author.Tests.{eq-eqb, ne-eqb}
 use Rattle.rules.specs.Shape.{inShape, phases, carriers}

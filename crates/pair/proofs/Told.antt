@@ -1,9 +1,9 @@
 -- Laws of pairedTold: an answer can be read back from what it tells, so the promise of `check` allows one answer only.
 -- Assumes nothing.
+use Prim.Native.Nat.{ℕ, _-_}
 use mathlib.Core.Path.{_≡_, refl, sym, _∙_, ap}
 use mathlib.Core.Bool.{Bool, true, false}
 use mathlib.Core.List.{List, [], _∷_}
-use Prim.Native.Nat.{ℕ, _-_}
 use lib.ListN.{getD}
 use Rattle.rules.specs.Outcome.{Outcome, gives, refuses}
 use Rattle.rules.specs.Refusal.{pairOutcome}

@@ -2,9 +2,9 @@
 -- Defines:  wordTold w          what is told of the word that a refusal speaks of: its number, and nothing for either
 --           pairedTold r        the answer, as an outcome (Rattle.rules.specs.Refusal)
 -- The promise of `check` speaks of its answer through pairedTold.  Assumes nothing: these are definitions.
+use Prim.Native.Nat.{ℕ}
 use mathlib.Core.Bool.{Bool, true, false}
 use mathlib.Core.List.{List, [], _∷_}
-use Prim.Native.Nat.{ℕ}
 use Rattle.rules.specs.Outcome.{Outcome, gives}
 use Rattle.kinds.specs.Told.{refusalTold, telling}
 use Rattle.pair.specs.declared.Which.{Which}

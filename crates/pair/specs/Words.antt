@@ -2,9 +2,9 @@
 -- Defines:  SymbolsBelow h w         h is in its range, and every symbol of w is below 2^h
 --           Words h a b              that holds of both, and they are of one length
 -- Assumes nothing: these are definitions.
+use Prim.Native.Nat.{ℕ, _≤_, _<_}
 use mathlib.Core.Path.{_≡_}
 use mathlib.Core.List.{List}
-use Prim.Native.Nat.{ℕ, _≤_, _<_}
 use lib.ListN.{length}
 use Rattle.rules.specs.Shape.{greatestH, phases}
 use Rattle.rules.specs.Word.{symbolAt}

@@ -3,8 +3,8 @@
 // What the answer says in the document's terms is in specs/Told.antt, and what is counted in rules, specs/Pair.antt.
 use kinds::Refusal;
 use kinds::Search;
-ghost use mathlib.Core.Path.{_≡_};
 ghost use Prim.Native.Nat.{ℕ, _≤_};
+ghost use mathlib.Core.Path.{_≡_};
 ghost use lib.ListN.{length};
 ghost use Rattle.rules.specs.Shape.{carriers};
 ghost use Rattle.rules.specs.Pair.{phaseCount, pairCount, golayPair, phasesAgree};

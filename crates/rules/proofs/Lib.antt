@@ -1,7 +1,8 @@
--- Bounds of a shape in range, laws of Best, and the starred cases of 01 as one list with one claim. The other laws of
--- the rules: crates paths and words.
+-- Bounds of a shape in range, laws of Best, the starred cases of 01 as one list with one claim, and samples of the
+-- other rules. The other laws of the rules: crates paths and words.
 pub mod Range
 pub mod Turns
 pub mod BestLaws
 pub mod Silence
 pub mod KnownWords
+pub mod Samples

@@ -1,9 +1,9 @@
 -- `pair::all_phases` meets its contract: the loop has passed no phase whose counts differ, and stops at the first.
 -- Invariant: k is at most q, and the counts agree for each phase before k. Measure: the phases left.
 -- Assumes nothing.
-use mathlib.Core.Path.{_≡_, sym, _∙_}
 use Prim.Native.Nat.{ℕ, _+_, _-_, _/_, _≤_, _<_}
 use native.Mathlib.Omega.{arith}
+use mathlib.Core.Path.{_≡_, sym, _∙_}
 use lib.ListN.{length}
 use lib.Pow.{pow-mono}
 use borrow.Author.Count.{below-none, below-more}

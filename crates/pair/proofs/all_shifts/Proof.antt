@@ -1,10 +1,10 @@
 -- `pair::all_shifts` meets its contract: the loop has passed no shift where counts differ, and stops at the first.
 -- Invariant: u is at least 1, and the counts agree at each shift from 1 to before u. Measure: what is left of a word.
 -- Assumes nothing.
-use mathlib.Core.Path.{_≡_, sym, _∙_}
-use mathlib.Core.Bool.{true}
 use Prim.Native.Nat.{ℕ, _-_, _≤_, _<_}
 use native.Mathlib.Omega.{arith}
+use mathlib.Core.Path.{_≡_, sym, _∙_}
+use mathlib.Core.Bool.{true}
 use lib.ListN.{length}
 use denote.Ref.{now}
 use borrow.Author.Count.{below-more}

@@ -1,8 +1,8 @@
 -- `pair::both` meets its contract: the two counts are at most the two lengths, so that their sum fits.
 -- Assumes nothing.
-use mathlib.Core.Path.{sym, ap₂}
 use Prim.Native.Nat.{ℕ, _+_}
 use native.Mathlib.Omega.{arith}
+use mathlib.Core.Path.{sym, ap₂}
 use lib.ListN.{length}
 use denote.Ref.{now}
 use borrow.Author.Needs.{needs}

@@ -1,17 +1,17 @@
 -- `pair::check` meets its contract: it refuses by the table, in its order, and past that the counts answer.
 -- Assumes nothing.
+use Prim.Native.Nat.{ℕ}
 use mathlib.Core.Path.{_≡_, refl, sym, _∙_, ap}
 use mathlib.Core.Bool.{true}
 use mathlib.Core.Option.{none}
-use Prim.Native.Nat.{ℕ}
 use denote.Ref.{now}
 use borrow.Author.Needs.{needs}
 use borrow.Author.Tests.{not-true, not-false}
 use Rattle.rules.specs.Shape.{inShape, carriers}
 use Rattle.rules.specs.Outcome.{gives}
 use Rattle.rules.specs.Refusal.{pairOutcome}
-use Rattle.kinds.specs.Told.{searchTold}
 use Rattle.rules.specs.Table.{firstBad}
+use Rattle.kinds.specs.Told.{searchTold}
 use Rattle.shape.proofs.Powers.{power-phases, power-carriers}
 use Rattle.pair.proofs.Outcomes.{
   pair-shape,

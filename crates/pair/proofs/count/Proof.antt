@@ -1,10 +1,10 @@
 -- `pair::count` meets its contract: each turn counts its place where the difference is k modulo 2^h.
 -- Invariant: j is from u to the length, and `found` is the count of the first j symbols. Measure: the symbols left.
 -- Assumes nothing.
-use mathlib.Core.Path.{_≡_, sym, _∙_}
-use mathlib.Core.Logic.{⊎-elim}
 use Prim.Native.Nat.{_-_, _≤_}
 use native.Mathlib.Omega.{arith}
+use mathlib.Core.Path.{_≡_, sym, _∙_}
+use mathlib.Core.Logic.{⊎-elim}
 use lib.ListN.{length}
 use lib.Pow.{pow-pos, pow-mono}
 use denote.Ref.{now}

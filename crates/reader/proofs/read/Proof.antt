@@ -9,8 +9,8 @@ use denote.Ref.{now}
 use borrow.Author.Needs.{needs}
 use borrow.Author.Tests.{not-true, not-false}
 use Rattle.rules.specs.Shape.{inShape, phases, carriers}
-use Rattle.kinds.specs.Told.{searchTold}
 use Rattle.rules.specs.Table.{firstBad}
+use Rattle.kinds.specs.Told.{searchTold}
 use Rattle.shape.proofs.Powers.{power-phases, power-carriers}
 use Rattle.shape.proofs.SymbolLaws.{firstBad-none}
 use Rattle.reader.proofs.Outcomes.{read-shape, read-length, read-symbol, read-search}

@@ -1,0 +1,55 @@
+-- Small sums done by hand, of the rules that no starred case reaches: the spectrum and its stages, what a four-phase
+-- symbol hears, Lee distance, and the unstarred hard word of 01.
+-- Assumes nothing.
+use Prim.Native.Nat.{ℕ, suc}
+use mathlib.Core.Path.{_≡_, refl}
+use mathlib.Core.List.{[], _∷_, flatMap}
+use lib.IntN.{ℤ, pos, negsuc}
+use Rattle.range.specs.Below.{sumBelow, countBelow, listBelow}
+use Rattle.range.specs.Signed.{sumℤ}
+use Rattle.rules.specs.Place.{digit}
+use Rattle.rules.specs.Path.{paths, orders, upTo, without, keep, pathAt}
+use Rattle.rules.specs.Label.{labelPath, coefficient, constant}
+use Rattle.rules.specs.Word.{links, formAt, wordAt, symbolAt}
+use Rattle.rules.specs.Pair.{minus}
+use Rattle.rules.specs.Soft.{heard}
+use Rattle.rules.specs.Distance.{hamming, leeOf, lee, distance}
+use Rattle.rules.specs.Spectrum.{shared, spectrumAt, stage, stages}
+
+-- 1, 2, 3, 4
+abbrev count : ℕ → ℤ
+count i = pos (suc i)
+
+spectrum-of-count : listBelow 4 (spectrumAt 2 count) ≡ pos 10 ∷ negsuc 1 ∷ negsuc 3 ∷ pos 0 ∷ []
+unfolding listBelow spectrumAt shared digit sumBelow sumℤ
+spectrum-of-count = refl
+
+-- stage 1 takes places 2 apart, since x_1 is the most significant digit
+first-stage : listBelow 4 (stages 2 1 count) ≡ pos 4 ∷ pos 6 ∷ negsuc 1 ∷ negsuc 1 ∷ []
+unfolding listBelow stages stage digit
+first-stage = refl
+
+both-stages : listBelow 4 (stages 2 2 count) ≡ pos 10 ∷ negsuc 1 ∷ negsuc 3 ∷ pos 0 ∷ []
+unfolding listBelow stages stage digit
+both-stages = refl
+
+-- re = 5 and im = 7 at place 1: symbols 0, 1, 2, 3 hear re, im, -re, -im
+four-phases : listBelow 4 (heard 2 (pos 1 ∷ pos 2 ∷ pos 5 ∷ pos 7 ∷ []) 1) ≡ pos 5 ∷ pos 7 ∷ negsuc 4 ∷ negsuc 6 ∷ []
+unfolding listBelow heard
+four-phases = refl
+
+-- 0 + 1 + 2 + 1 for four phases; of eight, 7 is 1 away, and 5 is 3
+lee-four : lee 2 4 (symbolAt (0 ∷ 1 ∷ 2 ∷ 3 ∷ [])) (symbolAt []) ≡ 4
+unfolding lee leeOf minus sumBelow
+lee-four = refl
+
+lee-eight : lee 3 4 (symbolAt (7 ∷ 5 ∷ 4 ∷ 0 ∷ [])) (symbolAt []) ≡ 8
+unfolding lee leeOf minus sumBelow
+lee-eight = refl
+
+-- 01: h = 1, m = 4, hard 1001001000011101 is 1 away from message 0's word
+hard-sixteen : distance 1 16
+    (symbolAt (1 ∷ 0 ∷ 0 ∷ 1 ∷ 0 ∷ 0 ∷ 1 ∷ 0 ∷ 0 ∷ 0 ∷ 0 ∷ 1 ∷ 1 ∷ 1 ∷ 0 ∷ 1 ∷ [])) (wordAt 1 4 0) ≡ 1
+unfolding distance hamming countBelow sumBelow wordAt formAt links pathAt paths orders upTo listBelow without keep digit
+    labelPath coefficient constant flatMap
+hard-sixteen = refl
