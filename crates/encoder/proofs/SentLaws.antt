@@ -9,13 +9,14 @@ use mathlib.Core.List.{List, []}
 use lib.ListN.{length}
 use borrow.Author.Tests.{eq-eqb, ne-eqb}
 use Rattle.rules.specs.Shape.{inShape, carriers}
-use Rattle.rules.specs.Outcome.{Outcome, refuses, allowed}
+use Rattle.rules.specs.Outcome.{Outcome, refuses, allowed, leaves}
 use Rattle.rules.specs.Table.{badMessage}
 use Rattle.rules.specs.Refusal.{sendRefusal}
-use Rattle.kinds.proofs.ToldLaws.{refusalTold-inj, gives-not-refuses}
+use Rattle.rules.proofs.OutcomeLaws.{gives-not-refuses}
+use Rattle.kinds.proofs.ToldLaws.{refusalTold-inj}
 use Rattle.encoder.specs.declared.Written.{Written}
 use Rattle.encoder.specs.declared.Written.the-variants.{Done, Refused}
-use Rattle.encoder.specs.Sent.{writtenTold, sliceAfter, Sent}
+use Rattle.encoder.specs.Sent.{writtenTold, Sent}
 
 module _ (h m n g : ℕ) where
   pub send-shape : inShape h m ≡ false → sendRefusal h m n g ≡ refuses 1 []
@@ -39,14 +40,14 @@ module _ (h m g : ℕ) (word before : List ℕ) where
       writtenTold r ≡ refuses k v → Sent h m g word before r before
   sent-refused r k v e t = record {
     told = t ∙ sym e;
-    slice = ap (λ (o : Outcome (Unit {0})). sliceAfter o before word) (sym e);
+    slice = ap (λ (o : Outcome (Unit {0})). leaves o before word) (sym e);
   }
 
   pub sent-done : (after : List ℕ) → sendRefusal h m (length before) g ≡ allowed → after ≡ word →
       Sent h m g word before Done after
   sent-done after e q = record {
     told = sym e;
-    slice = q ∙ ap (λ (o : Outcome (Unit {0})). sliceAfter o before word) (sym e);
+    slice = q ∙ ap (λ (o : Outcome (Unit {0})). leaves o before word) (sym e);
   }
 
 -- the word may be said in another way
@@ -71,10 +72,10 @@ sent-unique h m g word before r s after after′ p q =
 -- where nothing is refused the slice holds the word
 pub sent-word : {h m g : ℕ} {word before : List ℕ} {r : Written} {after : List ℕ} → Sent h m g word before r after →
     sendRefusal h m (length before) g ≡ allowed → after ≡ word
-sent-word {word = word} {before = before} s e = s .slice ∙ ap (λ (o : Outcome (Unit {0})). sliceAfter o before word) e
+sent-word {word = word} {before = before} s e = s .slice ∙ ap (λ (o : Outcome (Unit {0})). leaves o before word) e
 
 -- and where something is, whatever it held
 pub sent-kept : {h m g : ℕ} {word before : List ℕ} {r : Written} {after : List ℕ} (k : ℕ) (v : List ℕ) →
     Sent h m g word before r after → sendRefusal h m (length before) g ≡ refuses k v → after ≡ before
 sent-kept {word = word} {before = before} k v s e =
-    s .slice ∙ ap (λ (o : Outcome (Unit {0})). sliceAfter o before word) e
+    s .slice ∙ ap (λ (o : Outcome (Unit {0})). leaves o before word) e

@@ -1,15 +1,13 @@
 -- What encode and partner promise: 01 "What a logger may send", "The partner and the pair check", "When the receiver
 -- says no".
 -- Defines:  writtenTold r    what an answer says, in 01's terms
---           sliceAfter o old new    what a slice that held old holds after the outcome o: new, or old where o is a
---                                   refusal
 --           Sent h m g word before r after    the promise: the answer, and the slice that held `before`
 -- Laws: proofs/SentLaws.antt (only one outcome satisfies it).  Assumes nothing: these are definitions.
 use Prim.Native.Nat.{ℕ}
 use mathlib.Core.Path.{_≡_}
 use mathlib.Core.List.{List}
 use lib.ListN.{length}
-use Rattle.rules.specs.Outcome.{Outcome, gives, refuses, allowed}
+use Rattle.rules.specs.Outcome.{Outcome, allowed, leaves}
 use Rattle.rules.specs.Refusal.{sendRefusal}
 use Rattle.kinds.specs.Told.{refusalTold}
 use Rattle.encoder.specs.declared.Written.{Written}
@@ -19,10 +17,6 @@ abbrev pub writtenTold : Written → Outcome (Unit {0})
 writtenTold Done = allowed
 writtenTold (Refused r) = refusalTold r
 
-abbrev pub sliceAfter : {A : Type 0} → Outcome A → List ℕ → List ℕ → List ℕ
-sliceAfter (gives a) old new = new
-sliceAfter (refuses k v) old new = old
-
 pub record Sent (h m g : ℕ) (word before : List ℕ) (r : Written) (after : List ℕ) : Type 0 where
   pub told : writtenTold r ≡ sendRefusal h m (length before) g
-  pub slice : after ≡ sliceAfter (sendRefusal h m (length before) g) before word
+  pub slice : after ≡ leaves (sendRefusal h m (length before) g) before word

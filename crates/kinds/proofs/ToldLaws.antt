@@ -1,6 +1,6 @@
 -- An answer can be read back from what it tells, so what it tells determines it.
 -- In order: reading back the refusal, and what stands behind; the laws; refusals that tell the same are equal, and
--- searches; what is given is not refused.  Assumes nothing.
+-- searches.  Assumes nothing.
 use Prim.Native.Nat.{ℕ, _-_}
 use native.Mathlib.Omega.{arith}
 use mathlib.Core.Path.{_≡_, refl, sym, _∙_, ap}
@@ -66,7 +66,3 @@ searchTold-inj (At p) (At q) e =
 searchTold-inj (At p) Nowhere e = absurd (let z : _≡_ {A = ℕ} 0 1 = cc in omega arith)
 searchTold-inj Nowhere (At q) e = absurd (let z : _≡_ {A = ℕ} 0 1 = cc in omega arith)
 searchTold-inj Nowhere Nowhere e = refl
-
--- what is given is not refused
-pub gives-not-refuses : {A : Type 0} {a : A} {k : ℕ} {v : List ℕ} → gives a ≡ refuses k v → ⊥
-gives-not-refuses e = let z : _≡_ {A = ℕ} 0 1 = cc in omega arith

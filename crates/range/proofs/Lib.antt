@@ -3,3 +3,5 @@ pub mod Sums
 pub mod Tests
 pub mod FromOne
 pub mod Lists
+pub mod Filled
+pub mod SumsSigned

@@ -1,14 +1,12 @@
--- Laws of listBelow. In order: its length, its elements, one more at the end, equal elements, a list filled
--- from the front, rows end to end.
--- Not here: sums and counts (Sums), tests and searches (Tests).  Assumes nothing.
+-- Laws of listBelow. In order: its length, its elements, one more at the end, equal elements, rows end to end.
+-- Not here: sums and counts (Sums), tests and searches (Tests), lists filled from the front (Filled).  Assumes nothing.
 use Prim.Native.Nat.{ℕ, zero, suc, _+_, _<_, zero-le, suc-le-suc}
 use native.Mathlib.Nat.{zero-add, not-suc-le-zero, le-of-suc-le-suc}
-use native.Mathlib.Numerals.{add-one}
 use native.Mathlib.Omega.{arith}
-use mathlib.Core.Path.{_≡_, refl, sym, _∙_, ap}
-use mathlib.Core.List.{List, [], _∷_, _++_, append-nil}
-use lib.ListN.{length, getD, drop, set, List·getD-append}
-use lib.Seq.{drop-length, getD-append-add}
+use mathlib.Core.Path.{_≡_, refl, _∙_, ap}
+use mathlib.Core.List.{List, [], _∷_, _++_}
+use lib.ListN.{length, getD, List·getD-append}
+use lib.Seq.{getD-append-add}
 use Rattle.range.specs.Below.{sumBelow, listBelow, rowsBelow}
 
 module _ {A : Type 0} where
@@ -34,37 +32,6 @@ module _ {A : Type 0} where
   listBelow-cong (suc n) f g e =
       let rest = listBelow-cong n (λ i. f (suc i)) (λ i. g (suc i)) (λ i h. e (suc i) (suc-le-suc h)) in
       rw (e zero (suc-le-suc zero-le), rest)
-
-  -- a list filled from the front: the first i elements are f's, the others are d's own
-  abbrev pub filled : ℕ → (ℕ → A) → List A → List A
-  filled i f d = listBelow i f ++ drop i d
-
-  filled-suc : (i : ℕ) (f : ℕ → A) (d : List A) → i < length d → set (filled i f d) i (f i) ≡ filled (suc i) f d
-  unfolding listBelow
-  filled-suc i f [] h = absurd (not-suc-le-zero h)
-  filled-suc zero f (x ∷ d) h = refl
-  filled-suc (suc i) f (x ∷ d) h =
-      ap (λ (t : List A). f zero ∷ t) (filled-suc i (λ k. f (suc k)) d (le-of-suc-le-suc h))
-
-  pub filled-zero : (f : ℕ → A) (d : List A) → d ≡ filled zero f d
-  unfolding listBelow
-  filled-zero f d = refl
-
-  pub filled-step : (i : ℕ) (f : ℕ → A) (d : List A) → i < length d → set (filled i f d) i (f i) ≡ filled (i + 1) f d
-  filled-step i f d h = rw add-one (filled-suc i f d h)
-
-  pub filled-all : (f : ℕ → A) (d : List A) → filled (length d) f d ≡ listBelow (length d) f
-  filled-all f d = rw drop-length (append-nil (listBelow (length d) f))
-
-  -- one turn of a loop that fills a list: what is stored at i is f's element there
-  pub filled-turn : (i : ℕ) (f : ℕ → A) (d xs : List A) (v : A) → i < length d → xs ≡ filled i f d → v ≡ f i →
-      set xs i v ≡ filled (i + 1) f d
-  filled-turn i f d xs v h e p = rw (e, p) (filled-step i f d h)
-
-  -- the end of such a loop: i has reached the length
-  pub filled-end : (n i : ℕ) (f : ℕ → A) (d xs : List A) → length d ≡ n → i ≡ n → xs ≡ filled i f d → xs ≡ listBelow n f
-  filled-end n i f d xs l q e =
-      e ∙ ap (λ (k : ℕ). filled k f d) (q ∙ sym l) ∙ filled-all f d ∙ ap (λ (k : ℕ). listBelow k f) l
 
   -- rows end to end: element i of row j stands behind the rows before it
   pub rowsBelow-at : (n : ℕ) (f : ℕ → List A) (len : ℕ → ℕ) → ((j : ℕ) → length (f j) ≡ len j) → (j i : ℕ) (d : A) →

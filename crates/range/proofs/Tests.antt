@@ -1,12 +1,25 @@
--- Laws of allBelow and firstBelow. In order: both sides of a conjunction, a test not passed; all, from each place,
--- at each place, refuted; the first, found, not found, and back.
+-- Laws of tests, and of allBelow and firstBelow. In order: below and at least; both sides of a conjunction, a test not
+-- passed; all, from each place, at each place, refuted; the first, found, not found, and back.
 -- Not here: sums and counts (Sums), lists (Lists).  Assumes nothing.
 use Prim.Native.Nat.{ℕ, zero, suc, _<_, zero-le, suc-le-suc}
 use native.Mathlib.Nat.{not-suc-le-zero, le-of-suc-le-suc}
-use mathlib.Core.Path.{_≡_, refl, sym, _∙_, subst}
-use mathlib.Core.Bool.{Bool, true, false, _&&_, false≢true}
+use mathlib.Core.Path.{_≡_, refl, sym, _∙_, ap, subst}
+use mathlib.Core.Bool.{Bool, true, false, not, _&&_, false≢true, Bool·not-not}
 use mathlib.Core.Option.{Option, none, some}
+use lib.Dec.{leb, ltb}
+use borrow.Author.Tests.{leb-true, leb-false, le-ltb, lt-ltb}
 use Rattle.range.specs.Below.{allBelow, firstBelow, zeroOr}
+
+-- below is not at least
+pub ltb-not-leb : (a b : ℕ) → ltb a b ≡ not (leb b a)
+ltb-not-leb a b = go (leb b a) refl
+  where
+    go : (t : Bool) → leb b a ≡ t → ltb a b ≡ not t
+    go true e = le-ltb a b (leb-true b a e)
+    go false e = lt-ltb a b (leb-false b a e)
+
+pub leb-not-ltb : (a b : ℕ) → leb a b ≡ not (ltb b a)
+leb-not-ltb a b = sym (Bool·not-not (leb a b)) ∙ ap not (sym (ltb-not-leb b a))
 
 -- both sides of a conjunction
 pub and-left : (a b : Bool) → (a && b) ≡ true → a ≡ true

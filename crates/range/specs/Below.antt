@@ -5,12 +5,14 @@
 --           allBelow n f      whether every i below n passes f
 --           firstBelow n f    the first i below n that passes f, if there is one (zeroOr is its step)
 --           listBelow n f     f 0, .., f (n - 1)
+--           filled n f d      d filled from the front: f 0, .., f (n - 1), and from n on what d holds there
 --           rowsBelow n f     the lists f 0, .., f (n - 1), end to end
--- Laws: proofs/Sums.antt, Tests.antt, FromOne.antt, Lists.antt.  Assumes nothing: these are definitions.
+-- Laws: proofs/Sums.antt, Tests.antt, FromOne.antt, Lists.antt, Filled.antt.  Assumes nothing: these are definitions.
 use Prim.Native.Nat.{ℕ, zero, suc, _+_}
 use mathlib.Core.Bool.{Bool, true, false, _&&_}
 use mathlib.Core.List.{List, [], _∷_, _++_}
 use mathlib.Core.Option.{Option, none, some}
+use lib.ListN.{drop}
 
 unfoldable pub sumBelow : ℕ → (ℕ → ℕ) → ℕ
 sumBelow zero f = zero
@@ -40,6 +42,9 @@ firstBelow (suc n) f = zeroOr (f zero) (firstBelow n (λ i. f (suc i)))
 unfoldable pub listBelow : {A : Type 0} → ℕ → (ℕ → A) → List A
 listBelow zero f = []
 listBelow (suc n) f = f zero ∷ listBelow n (λ i. f (suc i))
+
+abbrev pub filled : {A : Type 0} → ℕ → (ℕ → A) → List A → List A
+filled n f d = listBelow n f ++ drop n d
 
 unfoldable pub rowsBelow : {A : Type 0} → ℕ → (ℕ → List A) → List A
 rowsBelow zero f = []

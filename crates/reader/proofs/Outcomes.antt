@@ -12,7 +12,8 @@ use Rattle.rules.specs.Shape.{inShape, phases, carriers}
 use Rattle.rules.specs.Outcome.{refuses}
 use Rattle.rules.specs.Table.{badSymbol, messageWith, firstBad}
 use Rattle.rules.specs.Refusal.{readOutcome, orNoWord}
-use Rattle.kinds.proofs.ToldLaws.{refusalTold-inj, gives-not-refuses}
+use Rattle.rules.proofs.OutcomeLaws.{gives-not-refuses}
+use Rattle.kinds.proofs.ToldLaws.{refusalTold-inj}
 use Rattle.reader.specs.declared.Reading.{Reading}
 use Rattle.reader.specs.declared.Reading.the-variants.{Found, Refused}
 use Rattle.reader.specs.Told.{readingTold}

@@ -12,4 +12,5 @@ pub mod Spectrum
 pub mod Outcome
 pub mod Table
 pub mod Refusal
+pub mod Areas
 pub mod Known

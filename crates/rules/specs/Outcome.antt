@@ -2,6 +2,7 @@
 -- Defines:  Outcome A               a call gives a value, or refuses with a number of 01's table and the numbers that
 --                                   the refusal carries
 --           allowed                 nothing is refused
+--           leaves o old new        what the outcome o leaves where old stood: new, or old where o is a refusal
 --           refuse k test o         refusal k where the test holds, else o
 --           refuseAt k found more o refusal k with the place found, and more behind it, else o
 -- Assumes nothing: these are definitions.
@@ -16,6 +17,10 @@ pub data Outcome (A : Type 0) : Type 0 where
 
 abbrev pub allowed : Outcome (Unit {0})
 allowed = gives tt
+
+abbrev pub leaves : {A B : Type 0} → Outcome A → B → B → B
+leaves (gives a) old new = new
+leaves (refuses k v) old new = old
 
 module _ {A : Type 0} where
   abbrev pub refuse : ℕ → Bool → Outcome A → Outcome A

@@ -1,6 +1,7 @@
 -- The transform: 01 "The transform by itself".
--- Defines:  accepted z            whether z lies in -32,768..32,767, the range of a transform input; it stands here
---                                 alone
+-- Defines:  widest                the range of a transform input is -widest..widest - 1; it stands here alone, and the
+--                                 bounds of every stage follow from it
+--           accepted z            whether z lies in that range, -32,768..32,767
 --           odd n                 whether n is odd
 --           shared m i j          how many ones the digits of i and j share
 --           spectrumAt m y j      entry j of the spectrum of y
@@ -17,8 +18,11 @@ use Rattle.range.specs.Signed.{sumℤ, negatedIf}
 use Rattle.rules.specs.Shape.{carriers}
 use Rattle.rules.specs.Place.{digit}
 
+abbrev pub widest : ℕ
+widest = 32768
+
 abbrev pub accepted : ℤ → Bool
-accepted z = leZ (negsuc 32767) z && leZ z (pos 32767)
+accepted z = leZ (negsuc (widest - 1)) z && leZ z (pos (widest - 1))
 
 abbrev pub odd : ℕ → Bool
 odd n = eqb (n % 2) 1

@@ -1,13 +1,14 @@
 -- What `power` and `takes` give for a shape in range.
--- In order: a power below 64 bits, the phases, the carriers; a test and its negation; the limit of a message number;
--- what `takes` says of one.  Assumes nothing.
+-- In order: a power below 64 bits, the phases, the carriers; the limit of a message number; what `takes` says of one.
+-- Assumes nothing.
 use Prim.Native.Nat.{ℕ, _^_, _<_}
 use native.Mathlib.Omega.{arith}
-use mathlib.Core.Path.{_≡_, refl, sym, _∙_, ap}
-use mathlib.Core.Bool.{Bool, true, false, not, cond, _&&_, Bool·not-not}
+use mathlib.Core.Path.{_≡_, sym, _∙_, ap}
+use mathlib.Core.Bool.{Bool, true, not, cond, _&&_, Bool·not-not}
 use lib.Dec.{leb, ltb}
-use borrow.Author.Tests.{leb-true, leb-false, le-ltb, lt-ltb}
-use Rattle.rules.specs.Shape.{inShape, phases, carriers, messageBits}
+use borrow.Author.Tests.{leb-true, lt-ltb}
+use Rattle.range.proofs.Tests.{and-right, ltb-not-leb}
+use Rattle.rules.specs.Shape.{greatestM, inH, inM, inShape, phases, carriers, messageBits}
 use Rattle.rules.specs.Table.{badMessage}
 use Rattle.rules.proofs.Range.{inShape-range, messageBits-le}
 
@@ -18,16 +19,12 @@ power-is e h = rw (lt-ltb e 64 h)
 pub power-phases : (h m : ℕ) → inShape h m ≡ true → cond (ltb h 64) (2 ^ h) 0 ≡ phases h
 power-phases h m e = power-is h (omega (arith, inShape-range h m e .h-most))
 
-pub power-carriers : (h m : ℕ) → inShape h m ≡ true → cond (ltb m 64) (2 ^ m) 0 ≡ carriers m
-power-carriers h m e = power-is m (omega (arith, inShape-range h m e .m-most))
+pub power-carriers-of-inM : (m : ℕ) → inM m ≡ true → cond (ltb m 64) (2 ^ m) 0 ≡ carriers m
+power-carriers-of-inM m e =
+    power-is m (omega (arith, leb-true m greatestM (and-right (leb 2 m) (leb m greatestM) e)))
 
--- below is not at least
-pub ltb-not-leb : (a b : ℕ) → ltb a b ≡ not (leb b a)
-ltb-not-leb a b = go (leb b a) refl
-  where
-    go : (t : Bool) → leb b a ≡ t → ltb a b ≡ not t
-    go true e = le-ltb a b (leb-true b a e)
-    go false e = lt-ltb a b (leb-false b a e)
+pub power-carriers : (h m : ℕ) → inShape h m ≡ true → cond (ltb m 64) (2 ^ m) 0 ≡ carriers m
+power-carriers h m e = power-carriers-of-inM m (and-right (inH h) (inM m) e)
 
 -- the limit of a message number fits 64 bits, so that the test against it is the table's
 pub takes-test : (h m g : ℕ) → inShape h m ≡ true →

@@ -9,7 +9,7 @@ ghost use Prim.Native.Nat.{_^_, _≤_};
 ghost use mathlib.Core.Path.{_≡_};
 ghost use mathlib.Core.Bool.{not, cond, _&&_};
 ghost use lib.Dec.{ltb};
-ghost use Rattle.rules.specs.Shape.{pathBits, inShape};
+ghost use Rattle.rules.specs.Shape.{pathBits, inM, inShape};
 ghost use Rattle.rules.specs.Label.{labelOf, messageOf};
 ghost use Rattle.rules.specs.Pair.{minus};
 ghost use Rattle.rules.specs.Table.{badMessage, firstBad};
@@ -39,6 +39,13 @@ pub fn in_shape(h: u32, m: u32) -> bool
     if GREATEST_H < h {
         return false;
     }
+    in_m(m)
+}
+
+// Whether m is in its range: all that the transform asks of a shape.
+pub fn in_m(m: u32) -> bool
+    ensures { λ r. ⌜ r ≡ inM m ⌝ }
+{
     if m < 2 {
         return false;
     }

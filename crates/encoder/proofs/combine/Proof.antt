@@ -7,7 +7,8 @@ use mathlib.Core.Path.{_≡_, refl}
 use lib.ListN.{length, length-set}
 use denote.Ref.{now}
 use borrow.Author.Needs.{needs}
-use Rattle.range.proofs.Lists.{filled, filled-zero, filled-turn, filled-end}
+use Rattle.range.specs.Below.{filled}
+use Rattle.range.proofs.Filled.{filled-zero, filled-turn, filled-end}
 use Rattle.encoder.specs.Steps.{symbolOf}
 use Rattle.encoder.proofs.combine.Statement.{statement}
 use Rattle.encoder.proofs.combine.Tie as tie

@@ -8,7 +8,8 @@ use mathlib.Core.List.{List}
 use lib.Dec.{lit≤}
 use lib.ListN.{replicate}
 use borrow.Author.Needs.{needs}
-use Rattle.range.proofs.Lists.{filled, filled-zero, filled-turn, filled-end}
+use Rattle.range.specs.Below.{filled}
+use Rattle.range.proofs.Filled.{filled-zero, filled-turn, filled-end}
 use Rattle.rules.specs.Place.{digit}
 use Rattle.rules.specs.Shape.{greatestM, carriers}
 use Rattle.encoder.proofs.digits.Statement.{statement}

@@ -7,8 +7,8 @@ use mathlib.Core.List.{List}
 use lib.Dec.{lit≤}
 use lib.ListN.{replicate}
 use borrow.Author.Needs.{needs}
-use Rattle.range.specs.Below.{listBelow}
-use Rattle.range.proofs.Lists.{filled, filled-turn, filled-end}
+use Rattle.range.specs.Below.{listBelow, filled}
+use Rattle.range.proofs.Filled.{filled-turn, filled-end}
 use Rattle.rules.specs.Place.{generatorAt}
 use Rattle.rules.specs.Shape.{greatestM, carriers}
 use Rattle.encoder.specs.Steps.{generatorRows}

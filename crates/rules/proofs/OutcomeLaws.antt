@@ -1,0 +1,22 @@
+-- Laws of outcomes: rules' Outcome. In order: what is given is not refused; where something is given, no test of the
+-- table held, and no place was found.  Assumes nothing.
+use Prim.Native.Nat.{ℕ}
+use native.Mathlib.Omega.{arith}
+use mathlib.Core.Path.{_≡_, refl, sym}
+use mathlib.Core.Bool.{Bool, true, false}
+use mathlib.Core.List.{List}
+use mathlib.Core.Option.{Option, none, some}
+use Rattle.rules.specs.Outcome.{Outcome, gives, refuses, refuse, refuseAt}
+
+module _ {A : Type 0} where
+  pub gives-not-refuses : {a : A} {k : ℕ} {v : List ℕ} → gives a ≡ refuses k v → ⊥
+  gives-not-refuses e = let z : _≡_ {A = ℕ} 0 1 = cc in omega arith
+
+  pub refuse-gives : (k : ℕ) (t : Bool) (o : Outcome A) (a : A) → refuse k t o ≡ gives a → (t ≡ false) × (o ≡ gives a)
+  refuse-gives k true o a e = absurd (gives-not-refuses (sym e))
+  refuse-gives k false o a e = (refl, e)
+
+  pub refuseAt-gives : (k : ℕ) (f : Option ℕ) (more : List ℕ) (o : Outcome A) (a : A) →
+      refuseAt k f more o ≡ gives a → (f ≡ none) × (o ≡ gives a)
+  refuseAt-gives k none more o a e = (refl, e)
+  refuseAt-gives k (some i) more o a e = absurd (gives-not-refuses (sym e))

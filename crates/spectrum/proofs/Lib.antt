@@ -1,0 +1,8 @@
+-- Laws of the spectrum and its stages.
+pub mod Inputs
+pub mod Pairs
+pub mod Blocks
+pub mod Shared
+pub mod Entries
+pub mod Turns
+pub mod Bounds

@@ -1,0 +1,15 @@
+-- Laws of the transform: its refusals, a stage, the stages between two areas, what they leave; then, in the logic of
+-- loans, what is left of an area whose front is handed out.
+pub mod Bits
+pub mod Outcomes
+pub mod Halves
+pub mod Turns
+pub mod Stages
+pub mod Between
+pub mod Parts
+pub mod Tail
+pub mod LeftLaws
+pub mod Again
+pub mod Calling
+pub mod Handing
+pub mod Walking

@@ -1,0 +1,32 @@
+-- A loop that writes a list place after place, seen from its own start: `Written f to₀ i₀ to i`.
+-- In order: what it says; before the first turn; a turn; one loop after another; the end of the last.
+-- Not here: lists filled from the front (range, Filled).  Assumes nothing.
+use Prim.Native.Nat.{ℕ, _+_, _<_}
+use mathlib.Core.Path.{_≡_, refl, _∙_, ap, subst}
+use mathlib.Core.List.{List}
+use lib.IntN.{ℤ}
+use lib.ListN.{length, set, length-set}
+use Rattle.range.specs.Below.{filled}
+use Rattle.range.proofs.Filled.{filled-zero, filled-turn}
+
+-- whichever list d was filled up to i₀ to give to₀ is now filled up to i
+pub record Written (f : ℕ → ℤ) (to₀ : List ℤ) (i₀ : ℕ) (to : List ℤ) (i : ℕ) : Type 0 where
+  pub sized : length to ≡ length to₀
+  pub on : (d : List ℤ) → length to₀ ≡ length d → to₀ ≡ filled i₀ f d → to ≡ filled i f d
+
+pub written-none : (f : ℕ → ℤ) (to : List ℤ) (i : ℕ) → Written f to i to i
+written-none f to i = record { sized = refl; on = λ d l e. e }
+
+pub written-turn : (f : ℕ → ℤ) (to₀ : List ℤ) (i₀ : ℕ) (to : List ℤ) (i : ℕ) (v : ℤ) → Written f to₀ i₀ to i →
+    i < length to₀ → v ≡ f i → Written f to₀ i₀ (set to i v) (i + 1)
+written-turn f to₀ i₀ to i v w h e = record {
+  sized = length-set to i v ∙ w .sized;
+  on = λ d l q. filled-turn i f d to v (subst (λ (n : ℕ). i < n) l h) (w .on d l q) e;
+}
+
+pub written-trans : {f : ℕ → ℤ} {xs ys zs : List ℤ} {i j k : ℕ} → Written f xs i ys j → Written f ys j zs k →
+    Written f xs i zs k
+written-trans v w = record { sized = w .sized ∙ v .sized; on = λ d l e. w .on d (v .sized ∙ l) (v .on d l e) }
+
+pub written-end : (f : ℕ → ℤ) (to₀ to : List ℤ) (i n : ℕ) → Written f to₀ 0 to i → i ≡ n → to ≡ filled n f to₀
+written-end f to₀ to i n w e = w .on to₀ refl (filled-zero f to₀) ∙ ap (λ (k : ℕ). filled k f to₀) e

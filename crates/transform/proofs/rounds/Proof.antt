@@ -1,0 +1,94 @@
+-- `transform::rounds` meets its contract: stage after stage, the area that holds the last one is read and the other is
+-- written. Invariant: what stands between the areas after k stages. Measure: the stages left.
+-- Assumes nothing.
+use Prim.Native.Nat.{ℕ, _-_, _%_}
+use native.Mathlib.Omega.{arith}
+use mathlib.Core.Path.{_≡_, _∙_}
+use mathlib.Core.Logic.{⊎-elim}
+use borrow.Author.Needs.{needs}
+use Rattle.transform.proofs.Between.{Between, between-none, between-all, between-first, between-second}
+use Rattle.transform.proofs.Between.{between-even, between-odd, between-reads-first, between-reads-second}
+use Rattle.transform.proofs.rounds.Statement.{statement}
+use Rattle.transform.proofs.rounds.Tie as tie
+
+abbrev Inv-loop : tie.InvT-loop
+Inv-loop m n first₀ second₀ s₀ k₀ first second s k = Between m first₀ second₀ first second s k
+
+abbrev μ-loop : tie.MeasureT-loop
+μ-loop m n first₀ second₀ s₀ k₀ first second s k = m - k
+
+loop-holds : tie.Need-loop-holds Inv-loop μ-loop
+loop-holds c = between-none _ _ _ _ (c .pre)
+
+-- the function's entry, seen from inside the loop
+abbrev start : tie.In-loop Inv-loop μ-loop → tie.Start Inv-loop μ-loop
+start c = c .before .before
+
+-- a number that is not even
+odd-of : (k : ℕ) → (k % 2 ≡ 0 → ⊥) → k % 2 ≡ 1
+odd-of k n = omega arith
+
+pass-requires : tie.Need-pass-requires Inv-loop μ-loop
+pass-requires c κs =
+    let in-loop = c .before .before .before in
+    let at = in-loop .before .loop in
+    let t = start in-loop .pre in (
+      between-reads-first _ _ _ _ t _ _ _ _ (at .inv) (in-loop .loop-test .taken) (c .before .before .if1 .taken),
+      omega (arith, t .second, between-second _ _ _ _ t _ _ _ _ (at .inv)),
+    )
+
+pass-requires-2 : tie.Need-pass-requires-2 Inv-loop μ-loop
+pass-requires-2 c κs =
+    let in-loop = c .before .before .before in
+    let at = in-loop .before .loop in
+    let t = start in-loop .pre in (
+      between-reads-second _ _ _ _ t _ _ _ _ (at .inv) (in-loop .loop-test .taken)
+          (odd-of (at .k) (c .before .before .if1 .left)),
+      omega (arith, t .first, between-first _ _ _ _ t _ _ _ _ (at .inv)),
+    )
+
+add-k : tie.Need-add-k Inv-loop μ-loop
+add-k c = search needs
+
+loop-less : tie.Need-loop-less Inv-loop μ-loop
+loop-less c = omega (arith, c .before .loop-test .taken)
+
+loop-again : tie.Need-loop-again Inv-loop μ-loop
+loop-again c =
+    let in-loop = c .before in
+    let at = in-loop .before .loop in
+    let t = start in-loop .pre in
+    ⊎-elim
+    (λ w.
+    rw (w .5)
+    (between-even _ _ _ _ t _ _ _ _ (at .inv) (in-loop .loop-test .taken) (w .0 .taken) _ (w .6 ∙ w .3 .ensures)))
+    (λ w.
+    rw (w .6)
+    (between-odd _ _ _ _ t _ _ _ _ (at .inv) (in-loop .loop-test .taken) (odd-of (at .k) (w .0 .left)) _
+    (w .5 ∙ w .3 .ensures)))
+    (c .if1 .came)
+
+same-length : tie.Need-same-length Inv-loop μ-loop
+same-length c = between-first _ _ _ _ (c .before .before .pre) _ _ _ _ (c .before .loop .inv)
+
+same-length-2 : tie.Need-same-length-2 Inv-loop μ-loop
+same-length-2 c = between-second _ _ _ _ (c .before .before .pre) _ _ _ _ (c .before .loop .inv)
+
+returns : tie.Need-returns Inv-loop μ-loop
+returns c = between-all (c .before .loop .inv) (c .loop-test .left)
+
+pub rounds-spec : {M : Type 1} → statement M
+rounds-spec =
+    tie.close
+    (tie.spec
+    Inv-loop
+    μ-loop
+    loop-holds
+    pass-requires
+    pass-requires-2
+    add-k
+    loop-less
+    loop-again
+    same-length
+    same-length-2
+    returns)

@@ -1,0 +1,84 @@
+-- `transform::run` meets its contract: where the question about it answers a refusal nothing is touched, and else the
+-- stages run, between areas that the answer says are fit for it.
+-- Assumes nothing.
+use mathlib.Core.Path.{_≡_, sym, _∙_, ap}
+use lib.ListN.{length}
+use denote.Ref.{now}
+use borrow.Author.Needs.{needs}
+use Rattle.rules.specs.Shape.{carriers}
+use Rattle.rules.specs.Outcome.{allowed}
+use Rattle.rules.specs.Refusal.{transformRefusal}
+use Rattle.shape.proofs.Powers.{power-carriers-of-inM}
+use Rattle.transform.specs.Told.{judgedTold}
+use Rattle.transform.proofs.Outcomes.{refusal-taken, taken-steady}
+use Rattle.transform.proofs.Parts.{ran-refused, ran-allowed}
+use Rattle.transform.proofs.run.Statement.{statement}
+use Rattle.transform.proofs.run.Tie as tie
+
+refusal-requires : tie.Need-refusal-requires
+refusal-requires c κs = search needs
+
+enum-told : tie.Need-enum-told
+enum-told c = search needs
+
+same-length : tie.Need-same-length
+same-length c = search needs
+
+same-length-2 : tie.Need-same-length-2
+same-length-2 c = search needs
+
+returns : tie.Need-returns
+returns c =
+    let asked = c .before .before .refusal in
+    ran-refused _ _ _ _ _ (sym (asked .ensures .0) ∙ ap judgedTold (c .enum-told .given .1))
+
+enum-told-2 : tie.Need-enum-told-2
+enum-told-2 c = search needs
+
+power-requires : tie.Need-power-requires
+power-requires c κs = search needs
+
+-- the function's entry, seen from past the question; nothing is refused there
+abbrev start : tie.After-enum-told2 → tie.Start
+start c = c .before .before .before .before .before
+
+granted : (c : tie.After-enum-told2) → let args = start c .args in
+    transformRefusal (args .m) (now (args .first)) (length (now (args .second))) ≡ allowed
+granted c = sym (c .before .before .refusal .ensures .0) ∙ ap judgedTold (c .enum-told2 .given .1)
+
+n-is : (c : tie.After-power) → c .power .result ≡ carriers (start (c .before) .args .m)
+n-is c = c .power .ensures ∙ power-carriers-of-inM _ (refusal-taken _ _ _ (granted (c .before)) .range)
+
+rounds-requires : tie.Need-rounds-requires
+rounds-requires c κs =
+    let at-power = c .before .before in
+    taken-steady _ _ _ _ (refusal-taken _ _ _ (granted (at-power .before))) (n-is at-power)
+
+same-length-3 : tie.Need-same-length-3
+same-length-3 c = search needs
+
+same-length-4 : tie.Need-same-length-4
+same-length-4 c = search needs
+
+returns-2 : tie.Need-returns-2
+returns-2 c =
+    let done = c .before .before in
+    let at-power = done .before .before .before in
+    ran-allowed _ _ _ _ _ _ (granted (at-power .before)) (n-is at-power) (done .rounds .ensures .0)
+    (done .rounds .ensures .1)
+
+pub run-spec : {M : Type 1} → statement M
+run-spec =
+    tie.close
+    (tie.spec
+    refusal-requires
+    enum-told
+    same-length
+    same-length-2
+    returns
+    enum-told-2
+    power-requires
+    rounds-requires
+    same-length-3
+    same-length-4
+    returns-2)

@@ -1,0 +1,32 @@
+-- What the transform and the question about it promise: 01 "The transform by itself", "When the receiver says no".
+-- Defines:  judgedTold r            what the answer to the question says, in 01's terms
+--           Ran m a b n a′ b′       the promise of `run`: how many entries it gives, and both areas afterwards
+--           Handed m x y r          what the part r is that the transform hands back, of the areas x and y: what it
+--                                   holds, and where it stands
+-- What is left of the two areas beside the part is in Left.antt.
+-- Laws: proofs/Parts.antt, Unique.antt.  Assumes nothing: these are definitions.
+use Prim.Native.Nat.{ℕ}
+use mathlib.Core.Path.{_≡_}
+use mathlib.Core.Bool.{cond}
+use mathlib.Core.List.{List}
+use lib.IntN.{ℤ}
+use denote.Ref.{RefT, ptr, now}
+use Rattle.rules.specs.Outcome.{Outcome, allowed}
+use Rattle.rules.specs.Areas.{firstAfter, secondAfter, partOf, partLength, partInFirst}
+use Rattle.kinds.specs.Told.{refusalTold}
+use Rattle.transform.specs.declared.Judged.{Judged}
+use Rattle.transform.specs.declared.Judged.the-variants.{Allowed, Refused}
+
+abbrev pub judgedTold : Judged → Outcome (Unit {0})
+judgedTold Allowed = allowed
+judgedTold (Refused r) = refusalTold r
+
+pub record Ran (m : ℕ) (a b : List ℤ) (n : ℕ) (a′ b′ : List ℤ) : Type 0 where
+  pub count : n ≡ partLength m a b
+  pub first : a′ ≡ firstAfter m a b
+  pub second : b′ ≡ secondAfter m a b
+
+-- a part stands at the front of an area where their pointers are equal
+pub record Handed (m : ℕ) (x y r : RefT (List ℤ)) : Type 0 where
+  pub contents : now r ≡ partOf m (now x) (now y)
+  pub place : ptr r ≡ cond (partInFirst m (now x) (now y)) (ptr x) (ptr y)

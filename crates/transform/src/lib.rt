@@ -1,0 +1,184 @@
+// The transform of document 01, "The transform by itself": a butterfly that goes to and fro between two lent areas.
+// Stage k = 1, .., m reads one area and writes the other, the first stage the second area. The part handed back is the
+// front of the area that the last stage wrote: the first for even m, the second for odd m.
+// Refusals in their order: 1 an m out of range, 2 an area shorter than N, 7 an input out of range, with the first bad
+// place. A refused transform changes nothing, and hands back the empty part at the front of the first area; `refusal`
+// says which refusal it is.
+// Contracts cite rules, specs/Areas.antt and Spectrum.antt; of this crate specs/Told.antt, Left.antt (what is left of
+// the areas beside the part) and, for the steps, Steps.antt.
+use kinds::Place;
+use kinds::Refusal;
+use kinds::Search;
+ghost use Prim.Native.Nat.{ℕ, _≤_, _<_};
+ghost use mathlib.Core.Path.{_≡_};
+ghost use mathlib.Core.Bool.{not};
+ghost use lib.IntN.{_+ℤ_, _-ℤ_};
+ghost use lib.ListN.{length};
+ghost use ghost.Atoms.{sem};
+ghost use mir.Syntax.{w32};
+ghost use mir.Val.{SFits};
+ghost use Rattle.range.specs.Below.{firstBelow, filled};
+ghost use Rattle.rules.specs.Spectrum.{accepted};
+ghost use Rattle.rules.specs.Refusal.{transformRefusal};
+ghost use Rattle.rules.specs.Areas.{entry};
+ghost use Rattle.kinds.specs.Told.{searchTold};
+ghost use Rattle.transform.specs.Told.{judgedTold, Ran, Handed};
+ghost use Rattle.transform.specs.Left.{left};
+ghost use Rattle.transform.specs.Steps.{butterfly, firstAt, secondAt, Readable, Steady};
+
+// The least and the greatest input that is taken.
+pub const LEAST: i32 = -32768;
+
+pub const GREATEST: i32 = 32767;
+
+// What `refusal` answers.
+pub enum Judged {
+    Allowed,
+    Refused(Refusal),
+}
+
+// The spectrum of the first N entries of the first area, as a part of the area that holds it: of the first for even m,
+// of the second for odd m. The other area then holds what stood after stage m - 1, and entries from N on stay in both.
+// Where it is refused nothing changes, and the part is the empty one at the front of the first area.
+// Left of the ∗ stands what is left of the areas beside the part, right of it what the part is.
+pub fn transform<'a>(m: u32, first: &'a mut [i32], second: &'a mut [i32]) -> &'a mut [i32]
+    ensures { λ r. sem 𝓤 H A (left m (first .entry) (second .entry)) ∗ ⌜ Handed m (first .entry) (second .entry) r ⌝ }
+{
+    let n = run(m, first, second);
+    if n == 0 {
+        return &mut first[..n];
+    }
+    if m % 2 == 0 {
+        return &mut first[..n];
+    }
+    &mut second[..n]
+}
+
+// The refusal that the transform gives on these areas as they stand, if it gives one. The areas are only read.
+pub fn refusal(m: u32, first: &[i32], second: &[i32]) -> Judged
+    ensures { λ r. ⌜ judgedTold r ≡ transformRefusal m (now (first .entry)) (length (now (second .entry))) ⌝ }
+    ensures { λ _. ⌜ (now (first .exit) ≡ now (first .entry)) × (now (second .exit) ≡ now (second .entry)) ⌝ }
+{
+    if !shape::in_m(m) {
+        return Judged::Refused(Refusal::Shape);
+    }
+    let n = shape::power(m) as usize;
+    if first.len() < n {
+        return Judged::Refused(Refusal::Length);
+    }
+    if second.len() < n {
+        return Judged::Refused(Refusal::Length);
+    }
+    if let Search::At(place) = first_outside(n, first) {
+        return Judged::Refused(Refusal::Value(place));
+    }
+    Judged::Allowed
+}
+
+// Runs the stages between the two areas, and answers how many entries the spectrum has: N, or 0 where the transform is
+// refused, and both areas then stay as they are. It is the transform without its part, for callers that go on with the
+// areas themselves.
+pub fn run(m: u32, first: &mut [i32], second: &mut [i32]) -> usize
+    ensures { λ r. ⌜ Ran m (now (first .entry)) (now (second .entry)) r (now (first .exit)) (now (second .exit)) ⌝ }
+{
+    if let Judged::Refused(_) = refusal(m, first, second) {
+        return 0;
+    }
+    let n = shape::power(m) as usize;
+    rounds(m, n, first, second);
+    n
+}
+
+// The m stages, to and fro: the odd ones read the first area and write the second.
+fn rounds(m: u32, n: usize, first: &mut [i32], second: &mut [i32])
+    requires { ⌜ Steady m n (now first) (now second) ⌝ }
+    ensures { λ _. ⌜ now (first .exit) ≡ firstAt m m (now (first .entry)) ⌝ }
+    ensures { λ _. ⌜ now (second .exit) ≡ secondAt m m (now (first .entry)) (now (second .entry)) ⌝ }
+{
+    let mut s = n;
+    let mut k = 0;
+    while k < m {
+        s = s / 2;
+        if k % 2 == 0 {
+            pass(s, n, first, second);
+        } else {
+            pass(s, n, second, first);
+        }
+        k += 1;
+    }
+}
+
+// The first of the first n entries that is out of range.
+fn first_outside(n: usize, area: &[i32]) -> Search
+    requires { ⌜ n ≤ length (now area) ⌝ }
+    ensures { λ r. ⌜ searchTold r ≡ firstBelow n (λ i. not (accepted (entry (now (area .entry)) i))) ⌝ }
+{
+    let mut i = 0;
+    while i < n {
+        if !takes(at(area, i)) {
+            return Search::At(Place(i));
+        }
+        i += 1;
+    }
+    Search::Nowhere
+}
+
+// Whether an input is in its range.
+fn takes(v: i32) -> bool
+    ensures { λ r. ⌜ r ≡ accepted v ⌝ }
+{
+    if v < LEAST {
+        return false;
+    }
+    if GREATEST < v {
+        return false;
+    }
+    true
+}
+
+// One stage: in each block of 2 s entries, the sums of its two halves, then the first half less the second.
+fn pass(s: usize, n: usize, from: &[i32], to: &mut [i32])
+    requires { ⌜ Readable s n (now from) ⌝ }
+    requires { ⌜ n ≤ length (now to) ⌝ }
+    ensures { λ _. ⌜ now (to .exit) ≡ filled n (butterfly s (entry (now (from .entry)))) (now (to .entry)) ⌝ }
+{
+    let mut i = 0;
+    while i < n {
+        let middle = i + s;
+        while i < middle {
+            to[i] = sum(from, i, i + s);
+            i += 1;
+        }
+        let end = i + s;
+        while i < end {
+            to[i] = less(from, i - s, i);
+            i += 1;
+        }
+    }
+}
+
+fn at(area: &[i32], i: usize) -> i32
+    requires { ⌜ i < length (now area) ⌝ }
+    ensures { λ r. ⌜ r ≡ entry (now (area .entry)) i ⌝ }
+{
+    area[i]
+}
+
+// Two entries added, and the first less the second.
+fn sum(a: &[i32], i: usize, j: usize) -> i32
+    requires { ⌜ i < length (now a) ⌝ }
+    requires { ⌜ j < length (now a) ⌝ }
+    requires { ⌜ SFits w32 (entry (now a) i +ℤ entry (now a) j) ⌝ }
+    ensures { λ r. ⌜ r ≡ entry (now (a .entry)) i +ℤ entry (now (a .entry)) j ⌝ }
+{
+    a[i] + a[j]
+}
+
+fn less(a: &[i32], i: usize, j: usize) -> i32
+    requires { ⌜ i < length (now a) ⌝ }
+    requires { ⌜ j < length (now a) ⌝ }
+    requires { ⌜ SFits w32 (entry (now a) i -ℤ entry (now a) j) ⌝ }
+    ensures { λ r. ⌜ r ≡ entry (now (a .entry)) i -ℤ entry (now (a .entry)) j ⌝ }
+{
+    a[i] - a[j]
+}
