@@ -7,6 +7,8 @@ pub mod Turns
 pub mod Stages
 pub mod Between
 pub mod Parts
+pub mod Unique
+pub mod Tied
 pub mod Tail
 pub mod LeftLaws
 pub mod Again
