@@ -1,4 +1,4 @@
-// Writes text, numbers, words and refusals to standard output, for the programs. No contract can speak of what is
+// Writes text, numbers, words, areas and refusals to standard output, for the programs. No contract can speak of what is
 // written; each function is proved to stay within its slice and to end.
 use kinds::Place;
 use kinds::Refusal;
@@ -10,6 +10,33 @@ pub fn say(text: &[u8]) {
 
 pub fn number(x: u64) {
     io::print_decimal(STDOUT_FILENO, x);
+}
+
+// A signed number, with its sign where it is below zero.
+pub fn signed(x: i32) {
+    let wide = x as i64;
+    if wide < 0 {
+        say(b"-");
+        number((0 - wide) as u64);
+    } else {
+        number(wide as u64);
+    }
+}
+
+// The entries of an area in brackets, with a space before each and before the brackets.
+pub fn area(entries: &[i32]) {
+    say(b" [");
+    let mut i = 0;
+    while i < entries.len() {
+        entry(entries[i]);
+        i += 1;
+    }
+    say(b" ]");
+}
+
+fn entry(x: i32) {
+    say(b" ");
+    signed(x);
 }
 
 // The symbols of a word, one digit each.
