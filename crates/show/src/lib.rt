@@ -1,5 +1,5 @@
-// Writes text, numbers, words, areas and refusals to standard output, for the programs. No contract can speak of what is
-// written; each function is proved to stay within its slice and to end.
+// Writes text, numbers, words, areas and refusals to standard output, for the programs. No contract can speak of what
+// is written; each function is proved to stay within its slice and to end.
 use kinds::Place;
 use kinds::Refusal;
 use libc::STDOUT_FILENO;

@@ -44,19 +44,19 @@ module _ (R : RattleType) (κ κ′ : Lft) (q : Share) (x y : RefT (List (R .Den
 module _ {M : Type 1} (𝓤 : URA M) (H : Heap 𝓤) (A : Atoms 𝓤) (W : Given 𝓤 H A) (R : RattleType) where
   -- without the machine value, and with it
   module _ (κ : Lft) (x : RefT (List (R .Denot))) where
-    bared : ent 𝓤 (sem 𝓤 H A (Own κ R x)) (sem 𝓤 H A (Bare erased κ R .own x))
+    pub bared : ent 𝓤 (sem 𝓤 H A (Own κ R x)) (sem 𝓤 H A (Bare erased κ R .own x))
     bared = qed W (‵ (Own κ R x) ∷ []) ∵ fsplit ! $ fsplit ! $ drop ! $ fjoin ! $ done !
 
-    clad : ent 𝓤 (sem 𝓤 H A (Bare erased κ R .own x)) (sem 𝓤 H A (Own κ R x))
+    pub clad : ent 𝓤 (sem 𝓤 H A (Bare erased κ R .own x)) (sem 𝓤 H A (Own κ R x))
     clad =
         qed W (‵ (Bare erased κ R .own x) ∷ []) ∵ fsplit ! $ feqI ! (List Val) (slice-vals x) (slice-vals x) refl $
         fjoin ! $ fjoin ! $ done !
 
-  module _ (κ κ′ : Lft) (q : Share) where
+  module _ (κ κ′ : Lft) where
     abbrev Kept-of : Share → RefT (List (R .Denot)) → GName → Fml
     Kept-of s x γ = keptF R κ s κ′ (x .name) γ (x .now) (x .ptr .0) (x .ptr .1)
 
-    lends : (s : Share) (x : RefT (List (R .Denot))) → ent 𝓤 (sep 𝓤 (sem 𝓤 H A (Own κ R x)) (A .lft κ s))
+    pub lends : (s : Share) (x : RefT (List (R .Denot))) → ent 𝓤 (sep 𝓤 (sem 𝓤 H A (Own κ R x)) (A .lft κ s))
         (H .⇛ (ex 𝓤 (λ (γ : GName). sep 𝓤 (sem 𝓤 H A (Own κ′ R (under x γ))) (sem 𝓤 H A (Kept-of s x γ)))))
     lends s x =
         qed W (‵ (Own κ R x) ∷ ‵ (flft κ s) ∷ []) ∵ updating ! $ use1 W (‵ (Bare erased κ R .own x)) (bared κ x) $
@@ -75,7 +75,7 @@ module _ {M : Type 1} (𝓤 : URA M) (H : Heap 𝓤) (A : Atoms 𝓤) (W : Given
         await ! tt $ learn ! (λ _. split ! $ use1 W (‵ (Own κ R (at-last x xs))) (clad κ (at-last x xs)) $
         at-once ! $ done !)
 
-    module _ (x y : RefT (List (R .Denot))) where
+    module _ (q : Share) (x y : RefT (List (R .Denot))) where
       pub lends-both : ent 𝓤 (sep 𝓤 (sem 𝓤 H A (Own κ R x)) (sep 𝓤 (sem 𝓤 H A (Own κ R y)) (A .lft κ q)))
           (H .⇛ (ex 𝓤 (λ (g : GName × GName). sem 𝓤 H A (Lent R κ κ′ q x y g))))
       lends-both =

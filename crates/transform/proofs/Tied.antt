@@ -4,7 +4,7 @@
 -- is empty exactly where it answers a refusal.
 -- Each law takes what `refusal` promises of its answer j, and what the transform promises of its part r.
 -- Not here: that each promise allows one outcome only (Unique).  Assumes nothing.
-use Prim.Native.Nat.{ℕ, zero}
+use Prim.Native.Nat.{ℕ}
 use native.Mathlib.Omega.{arith}
 use mathlib.Core.Path.{_≡_, refl, sym, _∙_, ap}
 use mathlib.Core.Logic.{_≢_}

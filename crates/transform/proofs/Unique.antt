@@ -5,7 +5,6 @@ use Prim.Native.Nat.{ℕ}
 use mathlib.Core.Path.{_≡_, refl, sym, _∙_, ap}
 use mathlib.Core.List.{List}
 use lib.IntN.{ℤ}
-use lib.ListN.{length}
 use denote.Ref.{RefT, ptr, now}
 use Rattle.rules.specs.Refusal.{transformRefusal}
 use Rattle.rules.proofs.OutcomeLaws.{gives-not-refuses}
