@@ -75,39 +75,6 @@ pub fn refusal(m: u32, first: &[i32], second: &[i32]) -> Judged
     Judged::Allowed
 }
 
-// Runs the stages between the two areas, and answers how many entries the spectrum has: N, or 0 where the transform is
-// refused, and both areas then stay as they are. It is the transform without its part, for callers that go on with the
-// areas themselves.
-pub fn run(m: u32, first: &mut [i32], second: &mut [i32]) -> usize
-    ensures { λ r. ⌜ Ran m (now (first .entry)) (now (second .entry)) r (now (first .exit)) (now (second .exit)) ⌝ }
-{
-    if let Judged::Refused(_) = refusal(m, first, second) {
-        return 0;
-    }
-    let n = shape::power(m) as usize;
-    rounds(m, n, first, second);
-    n
-}
-
-// The m stages, to and fro: the odd ones read the first area and write the second.
-fn rounds(m: u32, n: usize, first: &mut [i32], second: &mut [i32])
-    requires { ⌜ Steady m n (now first) (now second) ⌝ }
-    ensures { λ _. ⌜ now (first .exit) ≡ firstAt m m (now (first .entry)) ⌝ }
-    ensures { λ _. ⌜ now (second .exit) ≡ secondAt m m (now (first .entry)) (now (second .entry)) ⌝ }
-{
-    let mut s = n;
-    let mut k = 0;
-    while k < m {
-        s = s / 2;
-        if k % 2 == 0 {
-            pass(s, n, first, second);
-        } else {
-            pass(s, n, second, first);
-        }
-        k += 1;
-    }
-}
-
 // The first of the first n entries that is out of range.
 fn first_outside(n: usize, area: &[i32]) -> Search
     requires { ⌜ n ≤ length (now area) ⌝ }
@@ -136,6 +103,77 @@ fn takes(v: i32) -> bool
     true
 }
 
+// Entry i of an area.
+fn at(area: &[i32], i: usize) -> i32
+    requires { ⌜ i < length (now area) ⌝ }
+    ensures { λ r. ⌜ r ≡ entry (now (area .entry)) i ⌝ }
+{
+    area[i]
+}
+
+// Runs the stages between the two areas, and answers how many entries the spectrum has: N, or 0 where the transform is
+// refused, and both areas then stay as they are. It is the transform without its part, for callers that go on with the
+// areas themselves.
+pub fn run(m: u32, first: &mut [i32], second: &mut [i32]) -> usize
+    ensures { λ r. ⌜ Ran m (now (first .entry)) (now (second .entry)) r (now (first .exit)) (now (second .exit)) ⌝ }
+{
+    if let Judged::Refused(_) = refusal(m, first, second) {
+        return 0;
+    }
+    let n = shape::power(m) as usize;
+    rounds(m, n, first, second);
+    n
+}
+
+// The m stages, to and fro: the odd ones read the first area and write the second.
+fn rounds(m: u32, n: usize, first: &mut [i32], second: &mut [i32])
+    requires { ⌜ Steady m n (now first) (now second) ⌝ }
+    ensures { λ _. ⌜ now (first .exit) ≡ firstAt m m (now (first .entry)) ⌝ }
+    ensures { λ _. ⌜ now (second .exit) ≡ secondAt m m (now (first .entry)) (now (second .entry)) ⌝ }
+{
+    let mut s = n;
+    let mut k = 0;
+    while k < m {
+        s = s / 2;
+        if k % 2 == 0 {
+            stage(s, n, first, second);
+        } else {
+            stage(s, n, second, first);
+        }
+        k += 1;
+    }
+}
+
+// One stage. Each stride of an m in range is written out above the loops, so that the compiler knows how long they are;
+// the last call serves any other.
+fn stage(s: usize, n: usize, from: &[i32], to: &mut [i32])
+    requires { ⌜ Readable s n (now from) ⌝ }
+    requires { ⌜ n ≤ length (now to) ⌝ }
+    ensures { λ _. ⌜ now (to .exit) ≡ filled n (butterfly s (entry (now (from .entry)))) (now (to .entry)) ⌝ }
+{
+    if s == 1 {
+        pass(1, n, from, to);
+        return;
+    }
+    if s == 2 {
+        pass(2, n, from, to);
+        return;
+    }
+    if s == 4 {
+        pass(4, n, from, to);
+        return;
+    }
+    if s == 8 {
+        pass(8, n, from, to);
+        return;
+    }
+    if s == 16 {
+        pass(16, n, from, to);
+        return;
+    }
+    pass(s, n, from, to);
+}
+
 // One stage: in each block of 2 s entries, the sums of its two halves, then the first half less the second.
 fn pass(s: usize, n: usize, from: &[i32], to: &mut [i32])
     requires { ⌜ Readable s n (now from) ⌝ }
@@ -155,13 +193,6 @@ fn pass(s: usize, n: usize, from: &[i32], to: &mut [i32])
             i += 1;
         }
     }
-}
-
-fn at(area: &[i32], i: usize) -> i32
-    requires { ⌜ i < length (now area) ⌝ }
-    ensures { λ r. ⌜ r ≡ entry (now (area .entry)) i ⌝ }
-{
-    area[i]
 }
 
 // Two entries added, and the first less the second.

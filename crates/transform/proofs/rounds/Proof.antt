@@ -28,8 +28,8 @@ start c = c .before .before
 odd-of : (k : ℕ) → (k % 2 ≡ 0 → ⊥) → k % 2 ≡ 1
 odd-of k n = omega arith
 
-pass-requires : tie.Need-pass-requires Inv-loop μ-loop
-pass-requires c κs =
+stage-requires : tie.Need-stage-requires Inv-loop μ-loop
+stage-requires c κs =
     let in-loop = c .before .before .before in
     let at = in-loop .before .loop in
     let t = start in-loop .pre in (
@@ -37,8 +37,8 @@ pass-requires c κs =
       omega (arith, t .second, between-second _ _ _ _ t _ _ _ _ (at .inv)),
     )
 
-pass-requires-2 : tie.Need-pass-requires-2 Inv-loop μ-loop
-pass-requires-2 c κs =
+stage-requires-2 : tie.Need-stage-requires-2 Inv-loop μ-loop
+stage-requires-2 c κs =
     let in-loop = c .before .before .before in
     let at = in-loop .before .loop in
     let t = start in-loop .pre in (
@@ -84,8 +84,8 @@ rounds-spec =
     Inv-loop
     μ-loop
     loop-holds
-    pass-requires
-    pass-requires-2
+    stage-requires
+    stage-requires-2
     add-k
     loop-less
     loop-again
