@@ -3,7 +3,8 @@
 --           Start s i            i is where a block of 2 s entries begins: it is a multiple of 2 s
 --           Readable s n a       a stage may read the first n entries of a: blocks of 2 s fill them, and no sum or
 --                                difference of two leaves 32 bits
---           Steady m a b         stages may run between the areas a and b: each has N entries, and the inputs are taken
+--           Steady m n a b       stages may run between the areas a and b: m is in range, n is N, each area has as many
+--                                entries, and those of a are accepted
 --           firstAt m k a        what the first area holds after k stages: what the last even stage wrote, and
 --           secondAt m k a b     the second: what the last odd stage wrote; before any stage, b
 -- Laws: proofs/Halves.antt, proofs/Stages.antt.  Assumes nothing: these are definitions.

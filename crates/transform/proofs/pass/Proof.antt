@@ -40,19 +40,41 @@ abbrev μ-loop : tie.MeasureT-loop
 loop-holds : tie.Need-loop-holds Inv-loop2 μ-loop2 Inv-loop3 μ-loop3 Inv-loop μ-loop
 loop-holds c = (start-zero _, omega arith, written-none _ _ 0)
 
+-- the places that the facts below speak of: the function's entry, a block, its first half, the middle, the second half,
+-- and its end
+abbrev AtStart : Type 0
+AtStart = tie.Start Inv-loop2 μ-loop2 Inv-loop3 μ-loop3 Inv-loop μ-loop
+
+abbrev InBlock : Type 0
+InBlock = tie.In-loop Inv-loop2 μ-loop2 Inv-loop3 μ-loop3 Inv-loop μ-loop
+
+abbrev InFirst : Type 0
+InFirst = tie.In-loop2 Inv-loop2 μ-loop2 Inv-loop3 μ-loop3 Inv-loop μ-loop
+
+abbrev AtMiddle : Type 0
+AtMiddle = tie.After-loop2 Inv-loop2 μ-loop2 Inv-loop3 μ-loop3 Inv-loop μ-loop
+
+abbrev AtSecond : Type 0
+AtSecond = tie.At-loop3 Inv-loop2 μ-loop2 Inv-loop3 μ-loop3 Inv-loop μ-loop
+
+abbrev InSecond : Type 0
+InSecond = tie.In-loop3 Inv-loop2 μ-loop2 Inv-loop3 μ-loop3 Inv-loop μ-loop
+
+abbrev AtEnd : Type 0
+AtEnd = tie.After-loop3 Inv-loop2 μ-loop2 Inv-loop3 μ-loop3 Inv-loop μ-loop
+
 -- the function's entry and the block's start, seen from inside the outer loop
-abbrev start : tie.In-loop Inv-loop2 μ-loop2 Inv-loop3 μ-loop3 Inv-loop μ-loop →
-    tie.Start Inv-loop2 μ-loop2 Inv-loop3 μ-loop3 Inv-loop μ-loop
+abbrev start : InBlock → AtStart
 start c = c .before .before
 
-abbrev s : tie.In-loop Inv-loop2 μ-loop2 Inv-loop3 μ-loop3 Inv-loop μ-loop → ℕ
+abbrev s : InBlock → ℕ
 s c = start c .args .s
 
-abbrev p : tie.In-loop Inv-loop2 μ-loop2 Inv-loop3 μ-loop3 Inv-loop μ-loop → ℕ
+abbrev p : InBlock → ℕ
 p c = c .before .loop .i
 
 -- the whole block lies inside, also of the list that is written
-inside : (c : tie.In-loop Inv-loop2 μ-loop2 Inv-loop3 μ-loop3 Inv-loop μ-loop) →
+inside : (c : InBlock) →
     (p c + s c + s c ≤ start c .args .n) × (start c .args .n ≤ length (now (start c .args .from)))
     × (start c .args .n ≤ length (c .before .loop .to))
 inside c =
@@ -72,12 +94,12 @@ add-sum : tie.Need-add-sum Inv-loop2 μ-loop2 Inv-loop3 μ-loop3 Inv-loop μ-loo
 add-sum c = omega (arith, inside (c .before .before) .0, inside (c .before .before) .1)
 
 -- the entry at j is small enough to be added to another
-small : (c : tie.In-loop Inv-loop2 μ-loop2 Inv-loop3 μ-loop3 Inv-loop μ-loop) (j : ℕ) → j < start c .args .n →
+small : (c : InBlock) (j : ℕ) → j < start c .args .n →
     mag (entry (now (start c .args .from)) j) < 2 ^ 30
 small c j h = start c .pre .0 .small j h
 
 -- a turn of the first inner loop: both places of the pair are inside
-first : (c : tie.In-loop2 Inv-loop2 μ-loop2 Inv-loop3 μ-loop3 Inv-loop μ-loop) → let block = c .before .before in
+first : (c : InFirst) → let block = c .before .before in
     c .before .loop2 .i + s block < start block .args .n
 first c = omega (arith, inside (c .before .before) .0, c .loop2-test .taken)
 
@@ -97,8 +119,7 @@ sum-requires c κs =
     )
 
 -- the place is one of the list that is written
-write-first : (c : tie.In-loop2 Inv-loop2 μ-loop2 Inv-loop3 μ-loop3 Inv-loop μ-loop) →
-    c .before .loop2 .i < length (c .before .loop2 .to)
+write-first : (c : InFirst) → c .before .loop2 .i < length (c .before .loop2 .to)
 write-first c =
     let block = c .before .before in
     omega (arith, first c, inside block .2, c .before .loop2 .inv .2 .sized)
@@ -129,7 +150,7 @@ loop2-again c =
     )
 
 -- after it the place is the middle of the block
-middle : (c : tie.After-loop2 Inv-loop2 μ-loop2 Inv-loop3 μ-loop3 Inv-loop μ-loop) → let block = c .before .before in
+middle : (c : AtMiddle) → let block = c .before .before in
     c .before .loop2 .i ≡ p block + s block
 middle c = omega (arith, c .before .loop2 .inv .1, c .loop2-test .left)
 
@@ -140,11 +161,10 @@ loop3-holds : tie.Need-loop3-holds Inv-loop2 μ-loop2 Inv-loop3 μ-loop3 Inv-loo
 loop3-holds c = (le-refl _, omega arith, written-none _ _ _)
 
 -- the block, seen from inside the second inner loop, and a turn of that: its place is inside
-abbrev outer : tie.In-loop3 Inv-loop2 μ-loop2 Inv-loop3 μ-loop3 Inv-loop μ-loop →
-    tie.In-loop Inv-loop2 μ-loop2 Inv-loop3 μ-loop3 Inv-loop μ-loop
+abbrev outer : InSecond → InBlock
 outer c = c .before .before .before .before
 
-second : (c : tie.In-loop3 Inv-loop2 μ-loop2 Inv-loop3 μ-loop3 Inv-loop μ-loop) → let block = outer c in
+second : (c : InSecond) → let block = outer c in
     (c .before .loop3 .i < start block .args .n) × (p block + s block ≤ c .before .loop3 .i)
     × (c .before .loop3 .i < p block + s block + s block)
 second c =
@@ -155,7 +175,7 @@ second c =
     )
 
 -- both inner loops, as one
-both : (c : tie.At-loop3 Inv-loop2 μ-loop2 Inv-loop3 μ-loop3 Inv-loop μ-loop) → let block = c .before .before .before in
+both : (c : AtSecond) → let block = c .before .before .before in
     Written (butterfly (s block) (entry (now (start block .args .from)))) (now (start block .args .to)) 0 (c .loop3 .to)
     (c .loop3 .i)
 both c =
@@ -163,8 +183,7 @@ both c =
     written-trans (at-loop2 .before .before .loop .inv .2) (written-trans (at-loop2 .loop2 .inv .2) (c .loop3 .inv .2))
 
 -- and where they end the next block begins
-next : (c : tie.After-loop3 Inv-loop2 μ-loop2 Inv-loop3 μ-loop3 Inv-loop μ-loop) →
-    let block = c .before .before .before .before in
+next : (c : AtEnd) → let block = c .before .before .before .before in
     c .before .loop3 .i ≡ p block + s block + s block
 next c = omega (arith, middle (c .before .before), c .before .loop3 .inv .1, c .loop3-test .left)
 
@@ -199,8 +218,7 @@ less-requires c κs =
       ),
     )
 
-write-second : (c : tie.In-loop3 Inv-loop2 μ-loop2 Inv-loop3 μ-loop3 Inv-loop μ-loop) →
-    c .before .loop3 .i < length (c .before .loop3 .to)
+write-second : (c : InSecond) → c .before .loop3 .i < length (c .before .loop3 .to)
 write-second c =
     let at-loop2 = c .before .before .before in
     omega (
