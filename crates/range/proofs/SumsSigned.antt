@@ -39,9 +39,6 @@ sumℤ-neg zero f = refl
 sumℤ-neg (suc n) f =
     negℤ-+ℤ (f 0) (sumℤ n (λ i. f (suc i))) ∙ ap (λ x. negℤ (f 0) +ℤ x) (sumℤ-neg n (λ i. f (suc i)))
 
-pub sumℤ-sub : (n : ℕ) (f g : ℕ → ℤ) → sumℤ n f -ℤ sumℤ n g ≡ sumℤ n (λ i. f i -ℤ g i)
-sumℤ-sub n f g = ap (λ x. sumℤ n f +ℤ x) (sumℤ-neg n g) ∙ sumℤ-add n f (λ i. negℤ (g i))
-
 pub sumℤ-negatedIf : (b : Bool) (n : ℕ) (f : ℕ → ℤ) → negatedIf b (sumℤ n f) ≡ sumℤ n (λ i. negatedIf b (f i))
 sumℤ-negatedIf true n f = sumℤ-neg n f
 sumℤ-negatedIf false n f = refl

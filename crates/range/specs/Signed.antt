@@ -1,7 +1,7 @@
 -- Sums of whole numbers below n, and negation by a test.
 -- Defines:  sumℤ n f         f 0 + .. + f (n - 1)
 --           negatedIf b z    z, negated where b is true
--- Assumes nothing: these are definitions.
+-- Laws: proofs/SumsSigned.antt.  Assumes nothing: these are definitions.
 use Prim.Native.Nat.{ℕ, zero, suc}
 use mathlib.Core.Bool.{Bool, true, false}
 use lib.IntN.{ℤ, pos, negℤ, _+ℤ_}

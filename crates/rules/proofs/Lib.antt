@@ -7,3 +7,4 @@ pub mod BestLaws
 pub mod Silence
 pub mod KnownWords
 pub mod Samples
+pub mod AreaSamples

@@ -23,6 +23,13 @@ pub record InRange (h m : ℕ) : Type 0 where
   pub m-least : 2 ≤ m
   pub m-most : m ≤ greatestM
 
+-- of m alone
+pub inM-range : (m : ℕ) → inM m ≡ true → (2 ≤ m) × (m ≤ greatestM)
+inM-range m e = (
+  leb-true 2 m (and-left (leb 2 m) (leb m greatestM) e),
+  leb-true m greatestM (and-right (leb 2 m) (leb m greatestM) e),
+)
+
 pub inShape-range : (h m : ℕ) → inShape h m ≡ true → InRange h m
 inShape-range h m e =
     let a : inH h ≡ true = and-left (inH h) (inM m) e in
@@ -30,8 +37,8 @@ inShape-range h m e =
     record {
       h-least = leb-true 1 h (and-left (leb 1 h) (leb h greatestH) a);
       h-most = leb-true h greatestH (and-right (leb 1 h) (leb h greatestH) a);
-      m-least = leb-true 2 m (and-left (leb 2 m) (leb m greatestM) b);
-      m-most = leb-true m greatestM (and-right (leb 2 m) (leb m greatestM) b);
+      m-least = inM-range m b .0;
+      m-most = inM-range m b .1;
     }
 
 pub range-inM : (h m : ℕ) → InRange h m → T (inM m)

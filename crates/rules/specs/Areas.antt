@@ -1,5 +1,5 @@
 -- What the transform leaves in its two areas, and the part that it hands back: 01 "The transform by itself".
--- Throughout, a and b are what the first and the second area hold before, and y is the first N of a.
+-- Throughout, a and b are what the first and the second area hold before.
 -- Defines:  entry a i             entry i of an area
 --           inFirst m             whether the last stage writes the first area: for even m
 --           firstAfter m a b      what the first area holds afterwards, and
@@ -7,7 +7,7 @@
 --           partOf m a b          the part handed back: the spectrum, or nothing where the transform is refused
 --           partLength m a b      how long it is
 --           partInFirst m a b     whether it stands at the front of the first area: for even m, and where refused
--- Assumes nothing: these are definitions.
+-- Laws: transform, proofs/Parts.antt; samples: proofs/Samples.antt.  Assumes nothing: these are definitions.
 use Prim.Native.Nat.{ℕ, _-_, _%_}
 use mathlib.Core.Bool.{Bool, true, cond}
 use mathlib.Core.List.{List, []}

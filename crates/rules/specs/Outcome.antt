@@ -2,10 +2,10 @@
 -- Defines:  Outcome A               a call gives a value, or refuses with a number of 01's table and the numbers that
 --                                   the refusal carries
 --           allowed                 nothing is refused
---           leaves o old new        what the outcome o leaves where old stood: new, or old where o is a refusal
+--           leaves o old new        new where o gives, old where o refuses
 --           refuse k test o         refusal k where the test holds, else o
 --           refuseAt k found more o refusal k with the place found, and more behind it, else o
--- Assumes nothing: these are definitions.
+-- Laws: proofs/OutcomeLaws.antt.  Assumes nothing: these are definitions.
 use Prim.Native.Nat.{ℕ}
 use mathlib.Core.Bool.{Bool, true, false}
 use mathlib.Core.List.{List, [], _∷_}

@@ -1,13 +1,13 @@
 -- The transform: 01 "The transform by itself".
 -- Defines:  widest                the range of a transform input is -widest..widest - 1; it stands here alone, and the
 --                                 bounds of every stage follow from it
---           accepted z            whether z lies in that range, -32,768..32,767
+--           accepted z            whether z lies in that range
 --           odd n                 whether n is odd
 --           shared m i j          how many ones the digits of i and j share
 --           spectrumAt m y j      entry j of the spectrum of y
 --           stage m k y i         what stage k writes at place i, from y
 --           stages m k y          what stands after stages 1, .., k
--- Assumes nothing: these are definitions.
+-- Laws: crate spectrum; samples: proofs/Samples.antt.  Assumes nothing: these are definitions.
 use Prim.Native.Nat.{ℕ, zero, suc, _+_, _-_, _*_, _%_, _^_}
 use mathlib.Core.Bool.{Bool, _&&_, cond}
 use lib.Dec.{eqb}

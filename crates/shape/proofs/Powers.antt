@@ -5,12 +5,12 @@ use Prim.Native.Nat.{ℕ, _^_, _<_}
 use native.Mathlib.Omega.{arith}
 use mathlib.Core.Path.{_≡_, sym, _∙_, ap}
 use mathlib.Core.Bool.{Bool, true, not, cond, _&&_, Bool·not-not}
-use lib.Dec.{leb, ltb}
-use borrow.Author.Tests.{leb-true, lt-ltb}
+use lib.Dec.{ltb}
+use borrow.Author.Tests.{lt-ltb}
 use Rattle.range.proofs.Tests.{and-right, ltb-not-leb}
-use Rattle.rules.specs.Shape.{greatestM, inH, inM, inShape, phases, carriers, messageBits}
+use Rattle.rules.specs.Shape.{inH, inM, inShape, phases, carriers, messageBits}
 use Rattle.rules.specs.Table.{badMessage}
-use Rattle.rules.proofs.Range.{inShape-range, messageBits-le}
+use Rattle.rules.proofs.Range.{inM-range, inShape-range, messageBits-le}
 
 -- what `power` gives below 64
 pub power-is : (e : ℕ) → e < 64 → cond (ltb e 64) (2 ^ e) 0 ≡ 2 ^ e
@@ -20,8 +20,7 @@ pub power-phases : (h m : ℕ) → inShape h m ≡ true → cond (ltb h 64) (2 ^
 power-phases h m e = power-is h (omega (arith, inShape-range h m e .h-most))
 
 pub power-carriers-of-inM : (m : ℕ) → inM m ≡ true → cond (ltb m 64) (2 ^ m) 0 ≡ carriers m
-power-carriers-of-inM m e =
-    power-is m (omega (arith, leb-true m greatestM (and-right (leb 2 m) (leb m greatestM) e)))
+power-carriers-of-inM m e = power-is m (omega (arith, inM-range m e .1))
 
 pub power-carriers : (h m : ℕ) → inShape h m ≡ true → cond (ltb m 64) (2 ^ m) 0 ≡ carriers m
 power-carriers h m e = power-carriers-of-inM m (and-right (inH h) (inM m) e)

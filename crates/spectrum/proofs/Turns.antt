@@ -1,7 +1,7 @@
 -- A stage reads places below 2^m alone: rules' Spectrum. In order: one stage of equal values; one stage more, from what
--- equals the values after k stages; the stages of equal values.
+-- equals the values after k stages.
 -- Not here: what the values are (Entries), how great they are (Bounds).  Assumes nothing.
-use Prim.Native.Nat.{ℕ, zero, suc, _+_, _-_, _^_, _≤_, _<_}
+use Prim.Native.Nat.{ℕ, suc, _+_, _-_, _^_, _≤_, _<_}
 use native.Mathlib.Omega.{arith}
 use mathlib.Core.Path.{_≡_, sym, _∙_}
 use lib.IntN.{ℤ}
@@ -22,10 +22,3 @@ pub stages-turn : (m k : ℕ) (y z : ℕ → ℤ) → ((i : ℕ) → i < carrier
     i < carriers m → stage m (suc k) z i ≡ stages m (suc k) y i
 unfolding stages
 stages-turn m k y z same i h l = stage-cong m (suc k) z (stages m k y) same i (omega arith) h l
-
-pub stages-cong : (m k : ℕ) (y z : ℕ → ℤ) → ((i : ℕ) → i < carriers m → y i ≡ z i) → (i : ℕ) → k ≤ m →
-    i < carriers m → stages m k y i ≡ stages m k z i
-unfolding stages
-stages-cong m zero y z same i h l = same i l
-stages-cong m (suc k) y z same i h l =
-    stages-turn m k z (stages m k y) (λ j b. stages-cong m k y z same j (omega arith) b) i h l

@@ -7,18 +7,15 @@ use native.Mathlib.Nat.{sub-zero, pow-suc}
 use native.Mathlib.Numerals.{add-one}
 use native.Mathlib.Omega.{arith}
 use mathlib.Core.Path.{_≡_, sym, _∙_, ap}
-use mathlib.Core.Bool.{true}
 use mathlib.Core.List.{List}
-use lib.Dec.{leb}
 use lib.IntN.{ℤ}
 use lib.ListN.{length}
-use borrow.Author.Tests.{leb-true}
 use Rattle.range.specs.Below.{filled}
-use Rattle.range.proofs.Tests.{and-right}
-use Rattle.rules.specs.Shape.{greatestM, carriers}
-use Rattle.rules.specs.Spectrum.{accepted, stages}
+use Rattle.rules.specs.Shape.{carriers}
+use Rattle.rules.specs.Spectrum.{stages}
 use Rattle.rules.specs.Areas.{entry}
-use Rattle.transform.specs.Steps.{butterfly, Readable, Steady, firstAt, secondAt}
+use Rattle.rules.proofs.Range.{inM-range}
+use Rattle.transform.specs.Steps.{butterfly, Readable, Taken, firstAt, secondAt}
 use Rattle.transform.proofs.Stages.{Holds, holds-readable, holds-turn, firstAt-none, secondAt-none}
 use Rattle.transform.proofs.Stages.{length-firstAt, length-secondAt}
 use Rattle.transform.proofs.Stages.{firstAt-holds, firstAt-turn, firstAt-stays}
@@ -45,47 +42,36 @@ between-all {m} {a} {b} {k = k} v l =
     let e : k ≡ m = omega (arith, v .count) in
     (v .here ∙ ap (λ (j : ℕ). firstAt m j a) e, v .there ∙ ap (λ (j : ℕ). secondAt m j a b) e)
 
-module _ (m n : ℕ) (a b : List ℤ) (t : Steady m n a b) where
-  in-range : m ≤ greatestM
-  in-range = leb-true m greatestM (and-right (leb 2 m) (leb m greatestM) (t .range))
-
-  first-long : carriers m ≤ length a
-  first-long = omega (arith, t .size, t .first)
-
-  second-long : carriers m ≤ length b
-  second-long = omega (arith, t .size, t .second)
-
-  taken : (i : ℕ) → i < carriers m → accepted (entry a i) ≡ true
-  taken i l = t .inputs i (omega (arith, t .size))
-
+module _ (m n : ℕ) (a b : List ℤ) (t : Taken m a b) (size : n ≡ carriers m) where
   pub between-none : Between m a b a b n 0
   between-none = record {
     count = omega arith;
-    stride = t .size ∙ ap (λ (j : ℕ). 2 ^ j) (sym (sub-zero m));
-    here = firstAt-none m a b first-long second-long;
-    there = secondAt-none m a b first-long second-long;
+    stride = size ∙ ap (λ (j : ℕ). 2 ^ j) (sym (sub-zero m));
+    here = firstAt-none m a b (t .first) (t .second);
+    there = secondAt-none m a b (t .first) (t .second);
   }
 
   module _ (first second : List ℤ) (s k : ℕ) (v : Between m a b first second s k) where
     pub between-first : length first ≡ length a
-    between-first = ap length (v .here) ∙ length-firstAt m a b first-long second-long k
+    between-first = ap length (v .here) ∙ length-firstAt m a b (t .first) (t .second) k
 
     pub between-second : length second ≡ length b
-    between-second = ap length (v .there) ∙ length-secondAt m a b first-long second-long k
+    between-second = ap length (v .there) ∙ length-secondAt m a b (t .first) (t .second) k
 
     -- a stage that reads an area which holds the last stage
     module _ (l : k < m) (from : List ℤ) (h : Holds m k (entry a) from) where
       readable : Readable (s / 2) n from
       readable =
-          rw (stride-half m k s l (v .stride), t .size) (holds-readable m k (entry a) from h l in-range taken)
+          rw (stride-half m k s l (v .stride), size)
+          (holds-readable m k (entry a) from h l (inM-range m (t .range) .1) (t .values))
 
       turned : (to : List ℤ) →
           filled n (butterfly (s / 2) (entry from)) to ≡ filled (carriers m) (stages m (suc k) (entry a)) to
-      turned to = rw (stride-half m k s l (v .stride), t .size) (holds-turn m k (entry a) from h l to)
+      turned to = rw (stride-half m k s l (v .stride), size) (holds-turn m k (entry a) from h l to)
 
     module _ (l : k < m) (e : k % 2 ≡ 0) where
       holds-first : Holds m k (entry a) first
-      holds-first = rw (v .here) (firstAt-holds m a b first-long second-long k e)
+      holds-first = rw (v .here) (firstAt-holds m a b (t .first) (t .second) k e)
 
       pub between-reads-first : Readable (s / 2) n first
       between-reads-first = readable l first holds-first
@@ -95,15 +81,15 @@ module _ (m n : ℕ) (a b : List ℤ) (t : Steady m n a b) where
       between-even after q = rw (add-one k) (record {
         count = l;
         stride = stride-half m k s l (v .stride);
-        here = v .here ∙ firstAt-stays m a b first-long second-long k e;
+        here = v .here ∙ firstAt-stays m a b (t .first) (t .second) k e;
         there = q ∙ turned l first holds-first second
             ∙ ap (filled (carriers m) (stages m (suc k) (entry a))) (v .there)
-            ∙ secondAt-turn m a b first-long second-long k e;
+            ∙ secondAt-turn m a b (t .first) (t .second) k e;
       })
 
     module _ (l : k < m) (e : k % 2 ≡ 1) where
       holds-second : Holds m k (entry a) second
-      holds-second = rw (v .there) (secondAt-holds m a b first-long second-long k e)
+      holds-second = rw (v .there) (secondAt-holds m a b (t .first) (t .second) k e)
 
       pub between-reads-second : Readable (s / 2) n second
       between-reads-second = readable l second holds-second
@@ -115,6 +101,6 @@ module _ (m n : ℕ) (a b : List ℤ) (t : Steady m n a b) where
         stride = stride-half m k s l (v .stride);
         here = q ∙ turned l second holds-second first
             ∙ ap (filled (carriers m) (stages m (suc k) (entry a))) (v .here)
-            ∙ firstAt-turn m a b first-long second-long k e;
-        there = v .there ∙ secondAt-stays m a b first-long second-long k e;
+            ∙ firstAt-turn m a b (t .first) (t .second) k e;
+        there = v .there ∙ secondAt-stays m a b (t .first) (t .second) k e;
       })

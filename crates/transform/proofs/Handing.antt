@@ -3,7 +3,7 @@
 --     cuts             any two `&κ mut [T]`: the front n of x, what stays behind it, and the last list of y
 --     part m x y t γ   the part of the areas x and y, under the name γ, in the first where t is true
 --     Part m x y t κ n γ    what it owns, as a slice of n entries lent for κ
---     hands            of the transform's areas, from what `run` promises: the part that 01 says, and `left`
+--     hands            of the transform's areas, from what `run` promises: the part that 01 says, and `Remains`
 -- Of the rules' definitions it uses the laws of Parts.antt alone.  Assumes `Given`.
 use Prim.Native.Nat.{ℕ, _≤_}
 use mathlib.Core.Path.{_≡_, refl, sym, subst}
@@ -26,7 +26,7 @@ use denote.Builtin.{i32}
 use denote.Slice.{sliceVal, MutSlice, finally, res-finally}
 use Rattle.rules.specs.Areas.{firstAfter, secondAfter, partOf, partLength, partInFirst}
 use Rattle.transform.specs.Told.{Ran}
-use Rattle.transform.specs.Left.{behind, areasLeft, left}
+use Rattle.transform.specs.Remains.{Behind, RemainsOf, Remains}
 use Rattle.transform.proofs.Parts.{length-firstAfter, length-secondAfter, partLength-le-first}
 use Rattle.transform.proofs.Parts.{partLength-le-second, partOf-first, partOf-second}
 use Rattle.transform.proofs.Tail.{front-out}
@@ -48,7 +48,7 @@ module _ {M : Type 1} (𝓤 : URA M) (H : Heap 𝓤) (A : Atoms 𝓤) (W : Given
     abbrev Cut : GName → SProp 𝓤
     Cut γ =
         sep 𝓤 (sem 𝓤 H A (Front κ R x n (take n xs) γ))
-        (sep 𝓤 (A .lft κ q) (sem 𝓤 H A (fsep (finally R (y .name) ys) (behind R (x .name) n xs))))
+        (sep 𝓤 (A .lft κ q) (sem 𝓤 H A (fsep (finally R (y .name) ys) (Behind R (x .name) n xs))))
 
     pub cuts : n ≤ length xs → ent 𝓤
         (sep 𝓤 (sem 𝓤 H A (Own κ R (at-last x xs))) (sep 𝓤 (sem 𝓤 H A (Own κ R (at-last y ys))) (A .lft κ q)))
@@ -58,7 +58,7 @@ module _ {M : Type 1} (𝓤 : URA M) (H : Heap 𝓤) (A : Atoms 𝓤) (W : Given
         move ! (1 ∷ []) $ fsplit ! $ drop ! $ fsplit ! $ name-done ! tt $
         use1 W (‵ (finally R (y .name) ys)) (res-finally 𝓤 H A W erased κ R (y .name) ys) $ move ! (2 ∷ 3 ∷ []) $
         use2 W (later (some (λ (γ : GName).
-        ‵ (Front κ R x n (take n xs) γ) ⊛ ‵ (flft κ q) ⊛ ‵ (behind R (x .name) n xs))))
+        ‵ (Front κ R x n (take n xs) γ) ⊛ ‵ (flft κ q) ⊛ ‵ (Behind R (x .name) n xs))))
         (front-out 𝓤 H A W R κ q (x .ptr .0) (x .ptr .1) (x .name) erased erased xs n l) $ await ! tt $ pick ! (λ γ.
         split3 ! $ at-once ! $ show ! Cut γ $
         -- [the front; the token; what stays behind it; the last list of y; its borrow]
@@ -66,7 +66,7 @@ module _ {M : Type 1} (𝓤 : URA M) (H : Heap 𝓤) (A : Atoms 𝓤) (W : Given
 
   module _ (m : ℕ) (x y : RefT (List ℤ)) where
     abbrev Out : Bool → ℕ → GName → SProp 𝓤
-    Out t n γ = sep 𝓤 (sem 𝓤 H A (Part m x y t κ n γ)) (sep 𝓤 (A .lft κ q) (sem 𝓤 H A (left m x y)))
+    Out t n γ = sep 𝓤 (sem 𝓤 H A (Part m x y t κ n γ)) (sep 𝓤 (A .lft κ q) (sem 𝓤 H A (Remains m x y)))
 
     -- from the areas at the lists of z, a part of as many entries as z says
     abbrev Hands : Bool → ℕ × List ℤ × List ℤ → Type 1
@@ -85,7 +85,7 @@ module _ {M : Type 1} (𝓤 : URA M) (H : Heap 𝓤) (A : Atoms 𝓤) (W : Given
     ys = secondAfter m (x .now) (y .now)
 
     abbrev Areas : Bool → Fml
-    Areas t = areasLeft t n x y xs ys
+    Areas t = RemainsOf t n x y xs ys
 
     hands-at : (t : Bool) → partInFirst m (x .now) (y .now) ≡ t → Hands t (n, xs, ys)
     hands-at true e =

@@ -9,8 +9,9 @@ pub mod Between
 pub mod Parts
 pub mod Unique
 pub mod Tied
+pub mod Holes
 pub mod Tail
-pub mod LeftLaws
+pub mod RemainsLaws
 pub mod Again
 pub mod Calling
 pub mod Handing

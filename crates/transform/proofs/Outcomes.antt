@@ -1,6 +1,6 @@
 -- What the question about a transform is to answer on each way out of the code, and back: what is known where nothing
--- is refused. In order: the shape refused; a length; a value; nothing; what follows where nothing is, for the stages
--- too.  Assumes nothing.
+-- is refused. In order: the shape refused; a length; a value; nothing; what follows where nothing is; what the place of
+-- a refused value says.  Assumes nothing.
 use Prim.Native.Nat.{ℕ, _≤_, _<_}
 use mathlib.Core.Path.{_≡_, refl, sym}
 use mathlib.Core.Bool.{Bool, true, false, not, _||_, false≢true}
@@ -8,8 +8,8 @@ use mathlib.Core.List.{List, [], _∷_}
 use mathlib.Core.Option.{none, some}
 use lib.IntN.{ℤ}
 use lib.ListN.{length}
-use borrow.Author.Tests.{ltb-false, lt-ltb, le-ltb, not-false}
-use Rattle.range.proofs.Tests.{firstBelow-nowhere}
+use borrow.Author.Tests.{ltb-false, lt-ltb, le-ltb, not-true, not-false}
+use Rattle.range.proofs.Tests.{firstBelow-at, firstBelow-nowhere}
 use Rattle.rules.specs.Shape.{inM, carriers}
 use Rattle.rules.specs.Spectrum.{accepted}
 use Rattle.rules.specs.Outcome.{refuses, allowed, refuseAt}
@@ -17,7 +17,7 @@ use Rattle.rules.specs.Table.{shortArea, badValue}
 use Rattle.rules.specs.Refusal.{transformRefusal}
 use Rattle.rules.specs.Areas.{entry}
 use Rattle.rules.proofs.OutcomeLaws.{refuse-gives, refuseAt-gives}
-use Rattle.transform.specs.Steps.{Steady}
+use Rattle.transform.specs.Steps.{Taken}
 
 or-false : (s t : Bool) → (s || t) ≡ false → (s ≡ false) × (t ≡ false)
 or-false true t e = absurd (false≢true (sym e))
@@ -49,32 +49,28 @@ module _ (m : ℕ) (a : List ℤ) (n : ℕ) where
         pub refusal-none : none ≡ badValue m a → allowed ≡ transformRefusal m a n
         refusal-none s = rw (refusal-values, sym s)
 
--- what is known where nothing is refused
-pub record Taken (m : ℕ) (a : List ℤ) (n : ℕ) : Type 0 where
-  pub range : inM m ≡ true
-  pub first : carriers m ≤ length a
-  pub second : carriers m ≤ n
-  pub values : (i : ℕ) → i < carriers m → accepted (entry a i) ≡ true
-
-pub refusal-taken : (m : ℕ) (a : List ℤ) (n : ℕ) → transformRefusal m a n ≡ allowed → Taken m a n
+-- back: what is known where nothing is refused
+pub refusal-taken : (m : ℕ) (a b : List ℤ) → transformRefusal m a (length b) ≡ allowed → Taken m a b
 unfolding transformRefusal badValue
-refusal-taken m a n e =
+refusal-taken m a b e =
     let shape = refuse-gives 1 (not (inM m)) _ tt e in
-    let sizes = refuse-gives 2 (shortArea (length a) m || shortArea n m) _ tt (shape .1) in
-    let short = or-false (shortArea (length a) m) (shortArea n m) (sizes .0) in
+    let sizes = refuse-gives 2 (shortArea (length a) m || shortArea (length b) m) _ tt (shape .1) in
+    let short = or-false (shortArea (length a) m) (shortArea (length b) m) (sizes .0) in
     let values = refuseAt-gives 7 (badValue m a) [] allowed tt (sizes .1) in
     record {
       range = not-false (inM m) (shape .0);
       first = ltb-false (length a) (carriers m) (short .0);
-      second = ltb-false n (carriers m) (short .1);
+      second = ltb-false (length b) (carriers m) (short .1);
       values = λ i l. not-false (accepted (entry a i)) (firstBelow-nowhere (carriers m) _ (values .0) i l);
     }
 
-pub taken-steady : (m : ℕ) (a b : List ℤ) (n : ℕ) → Taken m a (length b) → n ≡ carriers m → Steady m n a b
-taken-steady m a b n t e = record {
-  range = t .range;
-  size = e;
-  first = rw e (t .first);
-  second = rw e (t .second);
-  inputs = λ i l. t .values i (rw e at l);
-}
+-- the place that refusal 7 carries: an input out of range, and all before it are in range
+pub badValue-some : (m : ℕ) (a : List ℤ) (i : ℕ) → badValue m a ≡ some i →
+    (i < carriers m) × (accepted (entry a i) ≡ false) × ((j : ℕ) → j < i → accepted (entry a j) ≡ true)
+unfolding badValue
+badValue-some m a i e =
+    let found = firstBelow-at (carriers m) _ i e in (
+      found .0,
+      not-true (accepted (entry a i)) (found .1 .0),
+      λ j l. not-false (accepted (entry a j)) (found .1 .1 j l),
+    )

@@ -7,38 +7,35 @@ use mathlib.Core.Path.{_≡_, refl, sym, _∙_, ap}
 use mathlib.Core.Logic.{_≢_}
 use mathlib.Core.Bool.{Bool, true, false, cond, false≢true}
 use mathlib.Core.List.{List, []}
-use lib.Dec.{leb}
 use lib.IntN.{ℤ}
 use lib.ListN.{length, take}
 use lib.Pow.{pow-pos}
-use borrow.Author.Tests.{leb-true, eq-eqb, ne-eqb}
+use borrow.Author.Tests.{eq-eqb, ne-eqb}
 use Rattle.range.specs.Below.{listBelow, filled}
+use Rattle.range.proofs.Lists.{length-listBelow}
 use Rattle.range.proofs.Filled.{length-filled, take-filled, filled-cong}
-use Rattle.range.proofs.Tests.{and-left}
-use Rattle.rules.specs.Shape.{greatestM, inM, carriers}
+use Rattle.rules.specs.Shape.{carriers}
 use Rattle.rules.specs.Spectrum.{spectrumAt, stages}
 use Rattle.rules.specs.Outcome.{Outcome, gives, refuses, allowed, leaves}
 use Rattle.rules.specs.Refusal.{transformRefusal}
 use Rattle.rules.specs.Areas.{entry, inFirst, firstAfter, secondAfter, partOf, partLength, partInFirst}
+use Rattle.rules.proofs.Range.{inM-range}
 use Rattle.spectrum.proofs.Pairs.{bit-cases}
 use Rattle.spectrum.proofs.Entries.{stages-spectrum}
 use Rattle.transform.specs.Told.{Ran}
 use Rattle.transform.specs.Steps.{firstAt, secondAt}
 use Rattle.transform.proofs.Outcomes.{refusal-taken}
 
-inM-two : (m : ℕ) → inM m ≡ true → 2 ≤ m
-inM-two m e = leb-true 2 m (and-left (leb 2 m) (leb m greatestM) e)
-
 module _ (m : ℕ) (a b : List ℤ) where
   abbrev outcome : Outcome (Unit {0})
   outcome = transformRefusal m a (length b)
 
-  -- what the last stage leaves in the first area and in the second, by the rules
-  abbrev last : Bool → ℕ → ℤ
-  last t = cond t (spectrumAt m (entry a)) (stages m (m - 1) (entry a))
+  -- what ends in the first area and in the second, by the rules, where t says whether the last stage writes the first
+  abbrev inTheFirst : Bool → ℕ → ℤ
+  inTheFirst t = cond t (spectrumAt m (entry a)) (stages m (m - 1) (entry a))
 
-  abbrev other : Bool → ℕ → ℤ
-  other t = cond t (stages m (m - 1) (entry a)) (spectrumAt m (entry a))
+  abbrev inTheSecond : Bool → ℕ → ℤ
+  inTheSecond t = cond t (stages m (m - 1) (entry a)) (spectrumAt m (entry a))
 
   -- an area that has N entries where nothing is refused keeps its length, and the part fits into it
   module _ (area : List ℤ) (h : outcome ≡ allowed → carriers m ≤ length area) where
@@ -53,19 +50,28 @@ module _ (m : ℕ) (a b : List ℤ) where
 
   pub length-firstAfter : length (firstAfter m a b) ≡ length a
   unfolding firstAfter
-  length-firstAfter = length-leaves a (λ e. refusal-taken m a (length b) e .first) (last (inFirst m)) outcome refl
+  length-firstAfter = length-leaves a (λ e. refusal-taken m a b e .first) (inTheFirst (inFirst m)) outcome refl
 
   pub length-secondAfter : length (secondAfter m a b) ≡ length b
   unfolding secondAfter
-  length-secondAfter = length-leaves b (λ e. refusal-taken m a (length b) e .second) (other (inFirst m)) outcome refl
+  length-secondAfter = length-leaves b (λ e. refusal-taken m a b e .second) (inTheSecond (inFirst m)) outcome refl
 
   pub partLength-le-first : partLength m a b ≤ length a
   unfolding partLength
-  partLength-le-first = le-leaves a (λ e. refusal-taken m a (length b) e .first) outcome refl
+  partLength-le-first = le-leaves a (λ e. refusal-taken m a b e .first) outcome refl
 
   pub partLength-le-second : partLength m a b ≤ length b
   unfolding partLength
-  partLength-le-second = le-leaves b (λ e. refusal-taken m a (length b) e .second) outcome refl
+  partLength-le-second = le-leaves b (λ e. refusal-taken m a b e .second) outcome refl
+
+  pub length-partOf : length (partOf m a b) ≡ partLength m a b
+  unfolding partOf partLength
+  length-partOf = go outcome
+    where
+      go : (o : Outcome (Unit {0})) →
+          length (leaves o [] (listBelow (carriers m) (spectrumAt m (entry a)))) ≡ leaves o 0 (carriers m)
+      go (gives u) = length-listBelow (carriers m) (spectrumAt m (entry a))
+      go (refuses k v) = refl
 
   -- the part is the front of the area that it stands in
   pub partOf-first : partInFirst m a b ≡ true → partOf m a b ≡ take (partLength m a b) (firstAfter m a b)
@@ -74,7 +80,7 @@ module _ (m : ℕ) (a b : List ℤ) where
     where
       go : (o : Outcome (Unit {0})) (t : Bool) → leaves o true t ≡ true →
           leaves o [] (listBelow (carriers m) (spectrumAt m (entry a)))
-          ≡ take (leaves o 0 (carriers m)) (leaves o a (filled (carriers m) (last t) a))
+          ≡ take (leaves o 0 (carriers m)) (leaves o a (filled (carriers m) (inTheFirst t) a))
       go (gives u) true e = sym (take-filled (carriers m) (spectrumAt m (entry a)) a)
       go (gives u) false e = absurd (false≢true e)
       go (refuses k v) t e = refl
@@ -85,7 +91,7 @@ module _ (m : ℕ) (a b : List ℤ) where
     where
       go : (o : Outcome (Unit {0})) (t : Bool) → leaves o true t ≡ false →
           leaves o [] (listBelow (carriers m) (spectrumAt m (entry a)))
-          ≡ take (leaves o 0 (carriers m)) (leaves o b (filled (carriers m) (other t) b))
+          ≡ take (leaves o 0 (carriers m)) (leaves o b (filled (carriers m) (inTheSecond t) b))
       go (gives u) true e = absurd (false≢true (sym e))
       go (gives u) false e = sym (take-filled (carriers m) (spectrumAt m (entry a)) b)
       go (refuses k v) t e = absurd (false≢true (sym e))
@@ -125,7 +131,7 @@ module _ (m : ℕ) (a b : List ℤ) where
       filled (carriers m) (stages m j (entry a)) area ≡ filled (carriers m) (stages m (m - 1) (entry a)) area
   before-is j area e = ap (λ (k : ℕ). filled (carriers m) (stages m k (entry a)) area) e
 
-  firstAt-is : firstAt m m a ≡ filled (carriers m) (last (inFirst m)) a
+  firstAt-is : firstAt m m a ≡ filled (carriers m) (inTheFirst (inFirst m)) a
   unfolding firstAt
   firstAt-is =
       bit-cases (m % 2) (omega arith)
@@ -140,7 +146,7 @@ module _ (m : ℕ) (a b : List ℤ) where
       let d : k ≡ suc k - 1 = omega arith in
       ap (λ (j : ℕ). filled (carriers m) (stages m (2 * (j / 2) + 1) (entry a)) b) d
 
-  secondAt-is : 1 ≤ m → secondAt m m a b ≡ filled (carriers m) (other (inFirst m)) b
+  secondAt-is : 1 ≤ m → secondAt m m a b ≡ filled (carriers m) (inTheSecond (inFirst m)) b
   secondAt-is h =
       secondAt-some m h
       ∙ bit-cases (m % 2) (omega arith)
@@ -157,5 +163,5 @@ module _ (m : ℕ) (a b : List ℤ) where
   ran-allowed n a′ b′ e p q r = record {
     count = p ∙ rw e;
     first = q ∙ firstAt-is ∙ rw e;
-    second = r ∙ secondAt-is (omega (arith, inM-two m (refusal-taken m a (length b) e .range))) ∙ rw e;
+    second = r ∙ secondAt-is (omega (arith, inM-range m (refusal-taken m a b e .range) .0)) ∙ rw e;
   }

@@ -1,3 +1,3 @@
 pub mod Told
-pub mod Left
+pub mod Remains
 pub mod Steps

@@ -3,8 +3,8 @@
 --           Start s i            i is where a block of 2 s entries begins: it is a multiple of 2 s
 --           Readable s n a       a stage may read the first n entries of a: blocks of 2 s fill them, and no sum or
 --                                difference of two leaves 32 bits
---           Steady m n a b       stages may run between the areas a and b: m is in range, n is N, each area has as many
---                                entries, and those of a are accepted
+--           Taken m a b          nothing is refused: m is in range, each area has N entries, and the first N of a are
+--                                accepted
 --           firstAt m k a        what the first area holds after k stages: what the last even stage wrote, and
 --           secondAt m k a b     the second: what the last odd stage wrote; before any stage, b
 -- Laws: proofs/Halves.antt, proofs/Stages.antt.  Assumes nothing: these are definitions.
@@ -34,12 +34,11 @@ pub record Readable (s n : ℕ) (a : List ℤ) : Type 0 where
   pub long : n ≤ length a
   pub small : (i : ℕ) → i < n → mag (entry a i) < 2 ^ 30
 
-pub record Steady (m n : ℕ) (a b : List ℤ) : Type 0 where
+pub record Taken (m : ℕ) (a b : List ℤ) : Type 0 where
   pub range : inM m ≡ true
-  pub size : n ≡ carriers m
-  pub first : n ≤ length a
-  pub second : n ≤ length b
-  pub inputs : (i : ℕ) → i < n → accepted (entry a i) ≡ true
+  pub first : carriers m ≤ length a
+  pub second : carriers m ≤ length b
+  pub values : (i : ℕ) → i < carriers m → accepted (entry a i) ≡ true
 
 unfoldable pub firstAt : ℕ → ℕ → List ℤ → List ℤ
 firstAt m k a = filled (carriers m) (stages m (2 * (k / 2)) (entry a)) a

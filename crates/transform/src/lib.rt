@@ -4,12 +4,12 @@
 // Refusals in their order: 1 an m out of range, 2 an area shorter than N, 7 an input out of range, with the first bad
 // place. A refused transform changes nothing, and hands back the empty part at the front of the first area; `refusal`
 // says which refusal it is.
-// Contracts cite rules, specs/Areas.antt and Spectrum.antt; of this crate specs/Told.antt, Left.antt (what is left of
+// Contracts cite rules, specs/Areas.antt and Spectrum.antt; of this crate specs/Told.antt, Remains.antt (what is left of
 // the areas beside the part) and, for the steps, Steps.antt.
 use kinds::Place;
 use kinds::Refusal;
 use kinds::Search;
-ghost use Prim.Native.Nat.{ℕ, _≤_, _<_};
+ghost use Prim.Native.Nat.{_≤_, _<_};
 ghost use mathlib.Core.Path.{_≡_};
 ghost use mathlib.Core.Bool.{not};
 ghost use lib.IntN.{_+ℤ_, _-ℤ_};
@@ -18,18 +18,21 @@ ghost use ghost.Atoms.{sem};
 ghost use mir.Syntax.{w32};
 ghost use mir.Val.{SFits};
 ghost use Rattle.range.specs.Below.{firstBelow, filled};
+ghost use Rattle.rules.specs.Shape.{carriers};
 ghost use Rattle.rules.specs.Spectrum.{accepted};
 ghost use Rattle.rules.specs.Refusal.{transformRefusal};
 ghost use Rattle.rules.specs.Areas.{entry};
 ghost use Rattle.kinds.specs.Told.{searchTold};
 ghost use Rattle.transform.specs.Told.{judgedTold, Ran, Handed};
-ghost use Rattle.transform.specs.Left.{left};
-ghost use Rattle.transform.specs.Steps.{butterfly, firstAt, secondAt, Readable, Steady};
+ghost use Rattle.transform.specs.Remains.{Remains};
+ghost use Rattle.transform.specs.Steps.{butterfly, firstAt, secondAt, Readable, Taken};
 
 // The least and the greatest input that is taken.
-pub const LEAST: i32 = -32768;
+const WIDEST: i32 = 32768;
 
-pub const GREATEST: i32 = 32767;
+pub const LEAST: i32 = -WIDEST;
+
+pub const GREATEST: i32 = WIDEST - 1;
 
 // What `refusal` answers.
 pub enum Judged {
@@ -39,10 +42,12 @@ pub enum Judged {
 
 // The spectrum of the first N entries of the first area, as a part of the area that holds it: of the first for even m,
 // of the second for odd m. The other area then holds what stood after stage m - 1, and entries from N on stay in both.
+// Refuses 1 an m out of range, 2 an area shorter than N, 7 one of the first N entries of the first area out of range.
 // Where it is refused nothing changes, and the part is the empty one at the front of the first area.
-// Left of the ∗ stands what is left of the areas beside the part, right of it what the part is.
+// Left of the ∗ stands what remains of the areas beside the part, right of it what the part is. What the entries under
+// the part hold once the part is over is not promised (docs/PROMISES.md, Exceptions); `run` serves who needs that.
 pub fn transform<'a>(m: u32, first: &'a mut [i32], second: &'a mut [i32]) -> &'a mut [i32]
-    ensures { λ r. sem 𝓤 H A (left m (first .entry) (second .entry)) ∗ ⌜ Handed m (first .entry) (second .entry) r ⌝ }
+    ensures { λ r. sem 𝓤 H A (Remains m (first .entry) (second .entry)) ∗ ⌜ Handed m (first .entry) (second .entry) r ⌝ }
 {
     let n = run(m, first, second);
     if n == 0 {
@@ -54,7 +59,9 @@ pub fn transform<'a>(m: u32, first: &'a mut [i32], second: &'a mut [i32]) -> &'a
     &mut second[..n]
 }
 
-// The refusal that the transform gives on these areas as they stand, if it gives one. The areas are only read.
+// The refusal that the transform gives on these areas as they stand, if it gives one: 1 an m out of range, 2 an area
+// shorter than N, 7 with the first of the first N entries of the first area that is out of range. The areas are only
+// read.
 pub fn refusal(m: u32, first: &[i32], second: &[i32]) -> Judged
     ensures { λ r. ⌜ judgedTold r ≡ transformRefusal m (now (first .entry)) (length (now (second .entry))) ⌝ }
     ensures { λ _. ⌜ (now (first .exit) ≡ now (first .entry)) × (now (second .exit) ≡ now (second .entry)) ⌝ }
@@ -127,7 +134,7 @@ pub fn run(m: u32, first: &mut [i32], second: &mut [i32]) -> usize
 
 // The m stages, to and fro: the odd ones read the first area and write the second.
 fn rounds(m: u32, n: usize, first: &mut [i32], second: &mut [i32])
-    requires { ⌜ Steady m n (now first) (now second) ⌝ }
+    requires { ⌜ Taken m (now first) (now second) × (n ≡ carriers m) ⌝ }
     ensures { λ _. ⌜ now (first .exit) ≡ firstAt m m (now (first .entry)) ⌝ }
     ensures { λ _. ⌜ now (second .exit) ≡ secondAt m m (now (first .entry)) (now (second .entry)) ⌝ }
 {
@@ -144,8 +151,8 @@ fn rounds(m: u32, n: usize, first: &mut [i32], second: &mut [i32])
     }
 }
 
-// One stage. Each stride of an m in range is written out above the loops, so that the compiler knows how long they are;
-// the last call serves any other.
+// One stage. Strides up to 16 are written out above the loops, so that the compiler knows how long they are; the last
+// call serves any other.
 fn stage(s: usize, n: usize, from: &[i32], to: &mut [i32])
     requires { ⌜ Readable s n (now from) ⌝ }
     requires { ⌜ n ≤ length (now to) ⌝ }

@@ -18,7 +18,7 @@ abbrev μ-loop : tie.MeasureT-loop
 μ-loop m n first₀ second₀ s₀ k₀ first second s k = m - k
 
 loop-holds : tie.Need-loop-holds Inv-loop μ-loop
-loop-holds c = between-none _ _ _ _ (c .pre)
+loop-holds c = between-none _ _ _ _ (c .pre .0) (c .pre .1)
 
 -- the function's entry, seen from inside the loop
 abbrev start : tie.In-loop Inv-loop μ-loop → tie.Start Inv-loop μ-loop
@@ -33,8 +33,9 @@ stage-requires c κs =
     let in-loop = c .before .before .before in
     let at = in-loop .before .loop in
     let t = start in-loop .pre in (
-      between-reads-first _ _ _ _ t _ _ _ _ (at .inv) (in-loop .loop-test .taken) (c .before .before .if1 .taken),
-      omega (arith, t .second, between-second _ _ _ _ t _ _ _ _ (at .inv)),
+      between-reads-first _ _ _ _ (t .0) (t .1) _ _ _ _ (at .inv) (in-loop .loop-test .taken)
+          (c .before .before .if1 .taken),
+      omega (arith, t .0 .second, t .1, between-second _ _ _ _ (t .0) (t .1) _ _ _ _ (at .inv)),
     )
 
 stage-requires-2 : tie.Need-stage-requires-2 Inv-loop μ-loop
@@ -42,9 +43,9 @@ stage-requires-2 c κs =
     let in-loop = c .before .before .before in
     let at = in-loop .before .loop in
     let t = start in-loop .pre in (
-      between-reads-second _ _ _ _ t _ _ _ _ (at .inv) (in-loop .loop-test .taken)
+      between-reads-second _ _ _ _ (t .0) (t .1) _ _ _ _ (at .inv) (in-loop .loop-test .taken)
           (odd-of (at .k) (c .before .before .if1 .left)),
-      omega (arith, t .first, between-first _ _ _ _ t _ _ _ _ (at .inv)),
+      omega (arith, t .0 .first, t .1, between-first _ _ _ _ (t .0) (t .1) _ _ _ _ (at .inv)),
     )
 
 add-k : tie.Need-add-k Inv-loop μ-loop
@@ -61,18 +62,23 @@ loop-again c =
     ⊎-elim
     (λ w.
     rw (w .5)
-    (between-even _ _ _ _ t _ _ _ _ (at .inv) (in-loop .loop-test .taken) (w .0 .taken) _ (w .6 ∙ w .3 .ensures)))
+    (between-even _ _ _ _ (t .0) (t .1) _ _ _ _ (at .inv) (in-loop .loop-test .taken) (w .0 .taken) _
+    (w .6 ∙ w .3 .ensures)))
     (λ w.
     rw (w .6)
-    (between-odd _ _ _ _ t _ _ _ _ (at .inv) (in-loop .loop-test .taken) (odd-of (at .k) (w .0 .left)) _
+    (between-odd _ _ _ _ (t .0) (t .1) _ _ _ _ (at .inv) (in-loop .loop-test .taken) (odd-of (at .k) (w .0 .left)) _
     (w .5 ∙ w .3 .ensures)))
     (c .if1 .came)
 
 same-length : tie.Need-same-length Inv-loop μ-loop
-same-length c = between-first _ _ _ _ (c .before .before .pre) _ _ _ _ (c .before .loop .inv)
+same-length c =
+    let t = c .before .before .pre in
+    between-first _ _ _ _ (t .0) (t .1) _ _ _ _ (c .before .loop .inv)
 
 same-length-2 : tie.Need-same-length-2 Inv-loop μ-loop
-same-length-2 c = between-second _ _ _ _ (c .before .before .pre) _ _ _ _ (c .before .loop .inv)
+same-length-2 c =
+    let t = c .before .before .pre in
+    between-second _ _ _ _ (t .0) (t .1) _ _ _ _ (c .before .loop .inv)
 
 returns : tie.Need-returns Inv-loop μ-loop
 returns c = between-all (c .before .loop .inv) (c .loop-test .left)

@@ -10,7 +10,8 @@ use Rattle.rules.specs.Outcome.{allowed}
 use Rattle.rules.specs.Refusal.{transformRefusal}
 use Rattle.shape.proofs.Powers.{power-carriers-of-inM}
 use Rattle.transform.specs.Told.{judgedTold}
-use Rattle.transform.proofs.Outcomes.{refusal-taken, taken-steady}
+use Rattle.transform.specs.Steps.{Taken}
+use Rattle.transform.proofs.Outcomes.{refusal-taken}
 use Rattle.transform.proofs.Parts.{ran-refused, ran-allowed}
 use Rattle.transform.proofs.run.Statement.{statement}
 use Rattle.transform.proofs.run.Tie as tie
@@ -46,13 +47,19 @@ granted : (c : tie.After-enum-told2) → let args = start c .args in
     transformRefusal (args .m) (now (args .first)) (length (now (args .second))) ≡ allowed
 granted c = sym (c .before .before .refusal .ensures .0) ∙ ap judgedTold (c .enum-told2 .given .1)
 
+taken : (c : tie.After-enum-told2) → let args = start c .args in
+    Taken (args .m) (now (args .first)) (now (args .second))
+taken c =
+    let args = start c .args in
+    refusal-taken (args .m) (now (args .first)) (now (args .second)) (granted c)
+
 n-is : (c : tie.After-power) → c .power .result ≡ carriers (start (c .before) .args .m)
-n-is c = c .power .ensures ∙ power-carriers-of-inM _ (refusal-taken _ _ _ (granted (c .before)) .range)
+n-is c = c .power .ensures ∙ power-carriers-of-inM _ (taken (c .before) .range)
 
 rounds-requires : tie.Need-rounds-requires
 rounds-requires c κs =
     let at-power = c .before .before in
-    taken-steady _ _ _ _ (refusal-taken _ _ _ (granted (at-power .before))) (n-is at-power)
+    (taken (at-power .before), n-is at-power)
 
 same-length-3 : tie.Need-same-length-3
 same-length-3 c = search needs

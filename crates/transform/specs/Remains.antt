@@ -1,13 +1,13 @@
 -- What is left of the two areas once a part of one of them is handed back: the resource in the transform's promise.
 -- An area is spoken of by its ghost name, under which the logic keeps what it holds at last, when its loan is over.
--- Defines:  behind R γ n ys           the area under γ, with entries of the type R, at last holds behind its first n
+-- Defines:  Behind R γ n ys           the area under γ, with entries of the type R, at last holds behind its first n
 --                                     entries what ys holds there
---           areasLeft t n x y a b     of the area whose front n entries are handed out (the first where t is true) what
+--           RemainsOf t n x y a b     of the area whose front n entries are handed out (the first where t is true) what
 --                                     stands behind them, and the whole of the other
---           left m x y                the same, of a transform with that m of the areas x and y
+--           Remains m x y                the same, of a transform with that m of the areas x and y
 -- What the front n entries hold once the part itself is over is what was last written through the part; the logic has
 -- no word for that (docs/PROMISES.md, Exceptions).
--- Laws: proofs/Tail.antt, Handing.antt, LeftLaws.antt.  Assumes nothing: these are definitions.
+-- Laws: proofs/Tail.antt, Handing.antt, RemainsLaws.antt.  Assumes nothing: these are definitions.
 use Prim.Native.Nat.{ℕ}
 use mathlib.Core.Bool.{Bool, true, false}
 use mathlib.Core.List.{List, _++_}
@@ -20,15 +20,15 @@ use denote.Ref.{RefT, name, now}
 use denote.Slice.{Holeys, heres, codedHoleys, finally}
 use Rattle.rules.specs.Areas.{firstAfter, secondAfter, partLength, partInFirst}
 
-abbrev pub behind : (R : RattleType) → GName → ℕ → List (R .Denot) → Fml
-behind R γ n ys =
+abbrev pub Behind : (R : RattleType) → GName → ℕ → List (R .Denot) → Fml
+Behind R γ n ys =
     fex (Holeys R) (λ hs. fsep (feq ℕ (length hs) n) (fres γ (codedHoleys R .code (hs ++ heres R (drop n ys)))))
 
-abbrev pub areasLeft : Bool → ℕ → RefT (List ℤ) → RefT (List ℤ) → List ℤ → List ℤ → Fml
-areasLeft true n x y a b = fsep (finally i32 (name y) b) (behind i32 (name x) n a)
-areasLeft false n x y a b = fsep (finally i32 (name x) a) (behind i32 (name y) n b)
+abbrev pub RemainsOf : Bool → ℕ → RefT (List ℤ) → RefT (List ℤ) → List ℤ → List ℤ → Fml
+RemainsOf true n x y a b = fsep (finally i32 (name y) b) (Behind i32 (name x) n a)
+RemainsOf false n x y a b = fsep (finally i32 (name x) a) (Behind i32 (name y) n b)
 
-abbrev pub left : ℕ → RefT (List ℤ) → RefT (List ℤ) → Fml
-left m x y =
-    areasLeft (partInFirst m (now x) (now y)) (partLength m (now x) (now y)) x y (firstAfter m (now x) (now y))
+abbrev pub Remains : ℕ → RefT (List ℤ) → RefT (List ℤ) → Fml
+Remains m x y =
+    RemainsOf (partInFirst m (now x) (now y)) (partLength m (now x) (now y)) x y (firstAfter m (now x) (now y))
     (secondAfter m (now x) (now y))

@@ -1,14 +1,16 @@
--- What `behind` and `finally` are worth: laws of what the transform says is left of the areas (specs/Left.antt), for
+-- What `Behind` and `finally` are worth: laws of what the transform says is left of the areas (specs/Remains.antt), for
 -- slices of any Rattle type R.
 --     seam, values-heres, heres-inj    on lists: from equal codes of two records to equal tails
 --     any-values        memory whose elements may be lent on holds as many values, whichever they are
---     behind-back       the lender's view: whoever lent a slice of k entries under γ for κ, and has `behind R γ n ys`,
---                       has its memory back once κ is over: n values, of which nothing is said, and then what ys holds
---                       behind its first n. It is to `behind` what the kit's `slice-back` is to `finally`
+--     Tailed            k values lie at (b, o): n of which nothing is said, and then what ys holds behind its first n
+--     tail-values       so they do where all but the first n elements are values, and are those of ys
+--     behind-back       the lender's view: whoever lent a slice of k entries under γ for κ, and has `Behind R γ n ys`,
+--                       has its memory back, Tailed, once κ is over. It is to `Behind` what the kit's `slice-back` is
+--                       to `finally`
 --     behind-one        two records of one name, seen of one resource, tell the same tail
 --     behind-unique     the same of two records side by side: no two tails can be promised of one area
 --     finally-unique    no two last contents can be promised of one area. The kit's `finally-one`, side by side
---     areasLeft-unique  no two endings can be promised of the two areas of a transform
+--     remains-unique  no two endings can be promised of the two areas of a transform
 -- The lemmas on lists assume nothing. The others: Assumes `Given`.
 use mathlib.Core.Path.{_≡_, refl, sym, _∙_, ap}
 use Prim.Native.Nat.{ℕ, suc, _+_}
@@ -24,8 +26,8 @@ use base.Fml.{Lft, GName, Fml, fdead, flent}
 use prog.Wp.{Heap}
 use ghost.Atoms.{Atoms, sem}
 use contract.Monad.{conj, conjL, conjR, conj-mono, sep→conj, ex-conj, conj-ex, fact, fact-mono, fact-use}
-use types.Kit.{Given, ‵, _⊛_, some, given, _$_, _∵_, !, qed, move, keep, use1, use2, rewrite, split, pick, learn, check}
-use types.Kit.{fsplit, fjoin, fpick, feqL, feqI, updating, now as at-once, show, done}
+use types.Kit.{Given, ‵, _⊛_, some, given, _$_, _∵_, !, qed, by, move, keep, use1, use2, rewrite, split, pick, learn}
+use types.Kit.{check, fsplit, fjoin, fpick, feqL, feqI, updating, now as at-once, show, done}
 use types.Tokens.{res-agree, lent-back}
 use types.SemTy.{SemTy, cells, Arr, Body}
 use types.Hole.{Holey, here, hole, heres-out}
@@ -37,7 +39,7 @@ use denote.Slice.{Holeys, heres, codedHoleys, finally}
 use denote.Lend.{Held}
 use denote.ExitLaws.{finally-one}
 use borrow.Table.Elements.{at, cut-app, join-app, length-app}
-use Rattle.transform.specs.Left.{behind, areasLeft}
+use Rattle.transform.specs.Remains.{Behind, RemainsOf}
 
 -- two lists joined are equal, and the first two are as long: so the second two are equal
 seam : {X : Type 0} (xs xs′ ys ys′ : List X) → length xs ≡ length xs′ → xs ++ ys ≡ xs′ ++ ys′ → ys ≡ ys′
@@ -95,44 +97,48 @@ module _ {M : Type 1} (𝓤 : URA M) (H : Heap 𝓤) (A : Atoms 𝓤) (W : Given
     any-values (h ∷ hs) b o = any-step h hs b o (any-values hs b (o + T .size))
 
   module _ (R : RattleType) where
-    -- k values lie at (b, o): n of which nothing is said, and then what ys holds behind its first n
     abbrev pub Tailed : (n k b o : ℕ) → List (R .Denot) → List (R .Denot) → SProp 𝓤
     Tailed n k b o ys ws = guard 𝓤 (length ws ≡ n) ⟦ Arr (mem R) k .lies (ws ++ drop-list n ys) b o ⟧
 
+    pub tail-values : (hs : Holeys R) (ys : List (R .Denot)) (n k b o : ℕ) → length hs ≡ n
+        → ent 𝓤 ⟦ Arr (Holey (mem R)) k .lies (hs ++ heres R (drop-list n ys)) b o ⟧ (ex 𝓤 (Tailed n k b o ys))
+    tail-values hs ys n k b o el =
+        qed W (‵ (Arr (Holey (mem R)) k .lies (hs ++ heres R tl) b o) ∷ []) ∵ fsplit ! $ feqL ! (λ ek.
+        use1 W (‵ (cells (Holey (mem R)) hs b o)
+        ⊛ ‵ (cells (Holey (mem R)) (heres R tl) b (at o (mem R .size) (length hs))))
+        (cut-app 𝓤 H A (Holey (mem R)) hs (heres R tl) b o) $ split ! $
+        use1 W (some (λ (ws : List (R .Denot)). given (length ws ≡ length hs) (‵ (cells (mem R) ws b o))))
+        (any-values (mem R) hs b o) $ pick ! (λ ws. learn ! (λ ew. move ! (1 ∷ []) $
+        use1 W (‵ (cells (mem R) tl b (at o (mem R .size) (length hs))))
+        (heres-out 𝓤 H A W (mem R) tl b (at o (mem R .size) (length hs))) $
+        rewrite ! 0 (λ (j : ℕ). ‵ (cells (mem R) tl b (at o (mem R .size) j))) (sym ew) refl $
+        -- [the tail; the front]
+        move ! (1 ∷ 0 ∷ []) $ use2 W (‵ (cells (mem R) (ws ++ tl) b o)) (join-app 𝓤 H A (mem R) ws tl b o) $
+        feqI ! ℕ (length (ws ++ tl)) k (as-many ws ew ∙ ek) $ fjoin ! $ show ! (Tailed n k b o ys) ws $
+        check ! (ew ∙ el) $ done !)))
+      where
+        tl : List (R .Denot)
+        tl = drop-list n ys
+
+        as-many : (ws : List (R .Denot)) → length ws ≡ length hs → length (ws ++ tl) ≡ length (hs ++ heres R tl)
+        as-many ws e =
+            length-app ws tl ∙ ap (λ (j : ℕ). j + length tl) e
+            ∙ ap (λ (j : ℕ). length hs + j) (sym (length-map tl (here (mem R)))) ∙ sym (length-app hs (heres R tl))
+
     pub behind-back : (κ : Lft) (γ : GName) (ys : List (R .Denot)) (n k b o : ℕ)
-        → ent 𝓤 (A .dead κ ∗ A .lent κ (Held R k b o γ) ∗ ⟦ behind R γ n ys ⟧) (H .⇛ (ex 𝓤 (Tailed n k b o ys)))
+        → ent 𝓤 (A .dead κ ∗ A .lent κ (Held R k b o γ) ∗ ⟦ Behind R γ n ys ⟧) (H .⇛ (ex 𝓤 (Tailed n k b o ys)))
     behind-back κ γ ys n k b o =
-        qed W (‵ (fdead κ) ∷ ‵ (flent κ (Held R k b o γ)) ∷ ‵ (behind R γ n ys) ∷ []) ∵ updating ! $ lent-back ! tt $
+        qed W (‵ (fdead κ) ∷ ‵ (flent κ (Held R k b o γ)) ∷ ‵ (Behind R γ n ys) ∷ []) ∵ updating ! $ lent-back ! tt $
         fpick ! (λ ks. fsplit ! $ move ! (2 ∷ []) $ fpick ! (λ hs. fsplit ! $ feqL ! (λ el.
         -- [res; the elements; auth]
         move ! (0 ∷ 2 ∷ []) $ res-agree ! (codedHoleys R) (λ e.
         rewrite ! 2 (λ (zs : Holeys R). ‵ (Arr (Holey (mem R)) k .lies zs b o)) (sym e) refl $ keep ! (2 ∷ []) $
-        fsplit ! $ feqL ! (λ ek.
-        use1 W (‵ (cells (Holey (mem R)) hs b o)
-        ⊛ ‵ (cells (Holey (mem R)) (heres R (drop-list n ys)) b (at o (mem R .size) (length hs))))
-        (cut-app 𝓤 H A (Holey (mem R)) hs (heres R (drop-list n ys)) b o) $ split ! $
-        use1 W (some (λ (ws : List (R .Denot)). given (length ws ≡ length hs) (‵ (cells (mem R) ws b o))))
-        (any-values (mem R) hs b o) $ pick ! (λ ws. learn ! (λ ew. move ! (1 ∷ []) $
-        use1 W (‵ (cells (mem R) (drop-list n ys) b (at o (mem R .size) (length hs))))
-        (heres-out 𝓤 H A W (mem R) (drop-list n ys) b (at o (mem R .size) (length hs))) $
-        rewrite ! 0 (λ (j : ℕ). ‵ (cells (mem R) (drop-list n ys) b (at o (mem R .size) j))) (sym ew) refl $
-        -- [the tail; the front]
-        move ! (1 ∷ 0 ∷ []) $
-        use2 W (‵ (cells (mem R) (ws ++ drop-list n ys) b o)) (join-app 𝓤 H A (mem R) ws (drop-list n ys) b o) $
-        feqI ! ℕ (length (ws ++ drop-list n ys)) k (as-many hs ws ew ∙ ek) $ fjoin ! $
-        at-once ! $ show ! (Tailed n k b o ys) ws $ check ! (ew ∙ el) $ done !)))))))
-      where
-        as-many : (hs : Holeys R) (ws : List (R .Denot)) → length ws ≡ length hs
-            → length (ws ++ drop-list n ys) ≡ length (hs ++ heres R (drop-list n ys))
-        as-many hs ws e =
-            length-app ws (drop-list n ys) ∙ ap (λ (j : ℕ). j + length (drop-list n ys)) e
-            ∙ ap (λ (j : ℕ). length hs + j) (sym (length-map (drop-list n ys) (here (mem R))))
-            ∙ sym (length-app hs (heres R (drop-list n ys)))
+        at-once ! $ by ! (tail-values hs ys n k b o el)))))
 
     pub behind-one : (γ : GName) (n : ℕ) (ys zs : List (R .Denot))
-        → ent 𝓤 (conj 𝓤 ⟦ behind R γ n ys ⟧ ⟦ behind R γ n zs ⟧) (fact 𝓤 (drop-list n ys ≡ drop-list n zs))
+        → ent 𝓤 (conj 𝓤 ⟦ Behind R γ n ys ⟧ ⟦ Behind R γ n zs ⟧) (fact 𝓤 (drop-list n ys ≡ drop-list n zs))
     behind-one γ n ys zs =
-        ex-conj 𝓤 (Told ys) ⟦ behind R γ n zs ⟧ (λ hs. conj-ex 𝓤 (Told ys hs) (Told zs) (λ ks.
+        ex-conj 𝓤 (Told ys) ⟦ Behind R γ n zs ⟧ (λ hs. conj-ex 𝓤 (Told ys hs) (Told zs) (λ ks.
         fact-use 𝓤 (length hs ≡ n)
         (via 𝓤 (Told ys hs) (conjL 𝓤 (Told ys hs) (Told zs ks)) (fst∗ 𝓤 (Count hs) (Last ys hs))) (λ eh.
         fact-use 𝓤 (length ks ≡ n)
@@ -158,9 +164,9 @@ module _ {M : Type 1} (𝓤 : URA M) (H : Heap 𝓤) (A : Atoms 𝓤) (W : Given
         Told xs hs = Count hs ∗ Last xs hs
 
     pub behind-unique : (γ : GName) (n : ℕ) (ys zs : List (R .Denot))
-        → ent 𝓤 (⟦ behind R γ n ys ⟧ ∗ ⟦ behind R γ n zs ⟧) (fact 𝓤 (drop-list n ys ≡ drop-list n zs))
+        → ent 𝓤 (⟦ Behind R γ n ys ⟧ ∗ ⟦ Behind R γ n zs ⟧) (fact 𝓤 (drop-list n ys ≡ drop-list n zs))
     behind-unique γ n ys zs =
-        via 𝓤 (conj 𝓤 ⟦ behind R γ n ys ⟧ ⟦ behind R γ n zs ⟧) (sep→conj 𝓤 ⟦ behind R γ n ys ⟧ ⟦ behind R γ n zs ⟧)
+        via 𝓤 (conj 𝓤 ⟦ Behind R γ n ys ⟧ ⟦ Behind R γ n zs ⟧) (sep→conj 𝓤 ⟦ Behind R γ n ys ⟧ ⟦ Behind R γ n zs ⟧)
         (behind-one γ n ys zs)
 
     pub finally-unique : (γ : GName) (ys zs : List (R .Denot))
@@ -177,18 +183,18 @@ module _ {M : Type 1} (𝓤 : URA M) (H : Heap 𝓤) (A : Atoms 𝓤) (W : Given
 
   -- of one area whole and of another behind its front
   one-whole : (γ δ : GName) (n : ℕ) (ys zs us vs : List ℤ) → ent 𝓤
-      ((⟦ finally i32 γ ys ⟧ ∗ ⟦ behind i32 δ n us ⟧) ∗ ⟦ finally i32 γ zs ⟧ ∗ ⟦ behind i32 δ n vs ⟧)
+      ((⟦ finally i32 γ ys ⟧ ∗ ⟦ Behind i32 δ n us ⟧) ∗ ⟦ finally i32 γ zs ⟧ ∗ ⟦ Behind i32 δ n vs ⟧)
       (fact 𝓤 ((ys ≡ zs) × (drop-list n us ≡ drop-list n vs)))
   one-whole γ δ n ys zs us vs =
       let F : List ℤ → SProp 𝓤 = λ l. ⟦ finally i32 γ l ⟧ in
-      let B : List ℤ → SProp 𝓤 = λ l. ⟦ behind i32 δ n l ⟧ in
+      let B : List ℤ → SProp 𝓤 = λ l. ⟦ Behind i32 δ n l ⟧ in
       fact-use 𝓤 (ys ≡ zs)
       (via 𝓤 (F ys ∗ F zs) (mono∗ 𝓤 (fst∗ 𝓤 (F ys) (B us)) (fst∗ 𝓤 (F zs) (B vs))) (finally-unique i32 γ ys zs)) (λ p.
       via 𝓤 (B us ∗ B vs) (mono∗ 𝓤 (snd∗ 𝓤 (F ys) (B us)) (snd∗ 𝓤 (F zs) (B vs)))
       (via 𝓤 (fact 𝓤 (drop-list n us ≡ drop-list n vs)) (behind-unique i32 δ n us vs)
       (fact-mono 𝓤 (drop-list n us ≡ drop-list n vs) ((ys ≡ zs) × (drop-list n us ≡ drop-list n vs)) (λ q. (p, q)))))
 
-  pub areasLeft-unique : (t : Bool) (n : ℕ) (x y : RefT (List ℤ)) (a b c d : List ℤ) →
-      ent 𝓤 (⟦ areasLeft t n x y a b ⟧ ∗ ⟦ areasLeft t n x y c d ⟧) (fact 𝓤 (Same t n a b c d))
-  areasLeft-unique true n x y a b c d = one-whole (name y) (name x) n b d a c
-  areasLeft-unique false n x y a b c d = one-whole (name x) (name y) n a c b d
+  pub remains-unique : (t : Bool) (n : ℕ) (x y : RefT (List ℤ)) (a b c d : List ℤ) →
+      ent 𝓤 (⟦ RemainsOf t n x y a b ⟧ ∗ ⟦ RemainsOf t n x y c d ⟧) (fact 𝓤 (Same t n a b c d))
+  remains-unique true n x y a b c d = one-whole (name y) (name x) n b d a c
+  remains-unique false n x y a b c d = one-whole (name x) (name y) n a c b d
