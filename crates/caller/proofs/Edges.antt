@@ -5,8 +5,8 @@
 --     opened           Entered  ⊢ both areas, as they stand, each with its token
 --     ends z k         what is returned
 --     exits            both areas at lists as long as those that were passed, of which Seen holds  ⊢ Post (ends z k)
--- What lies between: the calls, in Parting.antt, Reading.antt and Asking.antt; how Seen follows of them, in
--- SeenLaws.antt; and the walk, in look/Proof.antt.  Assumes `Given`.
+-- What lies between: the calls, in Parting.antt, Reading.antt and Asking.antt, and the walk, in look/Proof.antt.
+-- Assumes `Given`.
 use Prim.Native.Nat.{ℕ, _<_, _^_}
 use mathlib.Core.Path.{_≡_, refl}
 use mathlib.Core.List.{List, [], _∷_}

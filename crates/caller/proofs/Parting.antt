@@ -45,7 +45,8 @@ use Rattle.transform.proofs.Again.{Own, under, Kept-of, lends}
 use Rattle.transform.proofs.Calling.{vals, passed}
 use Rattle.transform.proofs.transform as transform
 use Rattle.caller.proofs.Back.{Had, Tail, part-back}
-use Rattle.caller.proofs.SeenLaws.{After, after-first, after-second}
+use Rattle.caller.specs.Seen.{After}
+use Rattle.caller.proofs.SeenLaws.{after-first, after-second}
 
 module _ (m : ℕ) (x y : RefT (List ℤ)) where
   -- what is left of the areas beside the part, while they are lent under g

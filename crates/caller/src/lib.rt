@@ -5,13 +5,15 @@ ghost use mathlib.Core.Bool.{cond};
 ghost use Rattle.rules.specs.Areas.{entry, inFirst};
 ghost use Rattle.caller.specs.Seen.{Seen};
 
-// What is seen: the first entry of the part, and then the first entry of the area that the part does not stand in.
+// What is seen: the first entry of the part, and then the first entry of the second area for even m, of the first for
+// odd m.
 pub struct Ends {
     pub total: i32,
     pub kept: i32,
 }
 
-// Entry 0 of the spectrum, and entry 0 of what stood before the last stage; 0 for each where an area is empty.
+// Entry 0 of the spectrum, and entry 0 of what stood before the last stage. Where the transform is refused: 0, and the
+// first entry of that area as it was; 0 where it is empty.
 pub fn look(m: u32, first: &mut [i32], second: &mut [i32]) -> Ends
     ensures { λ r. ⌜ Seen m (now (first .entry)) (now (second .entry)) r (now (first .exit)) (now (second .exit)) ⌝ }
 {

@@ -1,8 +1,8 @@
 -- The front of a mutable slice is handed out for all the time that the slice has left, and what stands behind the
 -- front is kept in words. `front-out` is for a function that hands back a part of the slice that it was lent.
 -- A `&mut [T]` whose contents are ys gives, for n at most their number, a `&mut [T]` at the same place whose contents
--- are the first n of them, under a new name, and a lasting record of the old name (`Behind`, specs/Remains.antt): its last
--- value is n entries of which nothing is said, and then what ys holds behind its first n.
+-- are the first n of them, under a new name, and a lasting record of the old name (`Behind`, specs/Remains.antt): its
+-- last value is n entries of which nothing is said, and then what ys holds behind its first n.
 -- The kit's `sl-front-out` hands out the same front and keeps no record, because no placeholder stands for a run of
 -- elements under one name. Here each front element gets a name of its own (Holes.antt). The old name is set to
 -- placeholders under those names, followed by the elements behind them, and is resolved at once. The slice's borrow is

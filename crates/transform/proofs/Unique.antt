@@ -1,5 +1,5 @@
 -- Only one outcome keeps each promise. In order: what an answer to the question tells determines it; one answer; one
--- outcome of `run`; one part, in contents and place. What the areas hold beside the part: RemainsLaws, `remains-unique`.
+-- outcome of `run`; one part, in contents and place. What the areas hold beside it: RemainsLaws, `remains-unique`.
 -- Assumes nothing.
 use Prim.Native.Nat.{ℕ}
 use mathlib.Core.Path.{_≡_, refl, sym, _∙_, ap}

@@ -1,12 +1,12 @@
--- What is left of the two areas once a part of one of them is handed back: the resource in the transform's promise.
+-- What remains of the two areas once a part of one of them is handed back: the resource in the transform's promise.
 -- An area is spoken of by its ghost name, under which the logic keeps what it holds at last, when its loan is over.
 -- Defines:  Behind R γ n ys           the area under γ, with entries of the type R, at last holds behind its first n
 --                                     entries what ys holds there
 --           RemainsOf t n x y a b     of the area whose front n entries are handed out (the first where t is true) what
 --                                     stands behind them, and the whole of the other
---           Remains m x y                the same, of a transform with that m of the areas x and y
--- What the front n entries hold once the part itself is over is what was last written through the part; the logic has
--- no word for that (docs/PROMISES.md, Exceptions).
+--           Remains m x y             the same, of a transform with that m of the areas x and y
+-- What the front n entries hold once the part itself is over is not said: a placeholder of the logic stands for one
+-- element under one name, and a clause cannot name the loan's lifetime (docs/PROMISES.md, Exceptions).
 -- Laws: proofs/Tail.antt, Handing.antt, RemainsLaws.antt.  Assumes nothing: these are definitions.
 use Prim.Native.Nat.{ℕ}
 use mathlib.Core.Bool.{Bool, true, false}

@@ -4,8 +4,8 @@
 // Refusals in their order: 1 an m out of range, 2 an area shorter than N, 7 an input out of range, with the first bad
 // place. A refused transform changes nothing, and hands back the empty part at the front of the first area; `refusal`
 // says which refusal it is.
-// Contracts cite rules, specs/Areas.antt and Spectrum.antt; of this crate specs/Told.antt, Remains.antt (what is left of
-// the areas beside the part) and, for the steps, Steps.antt.
+// Contracts cite rules, specs/Areas.antt and Spectrum.antt; of this crate specs/Told.antt, Remains.antt (what remains
+// of the areas beside the part) and, for the steps, Steps.antt.
 use kinds::Place;
 use kinds::Refusal;
 use kinds::Search;
@@ -47,7 +47,8 @@ pub enum Judged {
 // Left of the ∗ stands what remains of the areas beside the part, right of it what the part is. What the entries under
 // the part hold once the part is over is not promised (docs/PROMISES.md, Exceptions); `run` serves who needs that.
 pub fn transform<'a>(m: u32, first: &'a mut [i32], second: &'a mut [i32]) -> &'a mut [i32]
-    ensures { λ r. sem 𝓤 H A (Remains m (first .entry) (second .entry)) ∗ ⌜ Handed m (first .entry) (second .entry) r ⌝ }
+    ensures { λ r. sem 𝓤 H A (Remains m (first .entry) (second .entry))
+        ∗ ⌜ Handed m (first .entry) (second .entry) r ⌝ }
 {
     let n = run(m, first, second);
     if n == 0 {

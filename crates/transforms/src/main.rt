@@ -1,5 +1,6 @@
 // Runs cases of the transform as calls, with the question about it before each: a case is one line, the call and then
 // what came of it. Through a part that is not empty 77 is put at its front, which shows in the area that it stands in.
+// A few lines call the core and the small caller.
 use show::area;
 use show::number;
 use show::refusal;
@@ -11,7 +12,9 @@ fn main() {
     least();
     greatest();
     mixed();
+    extreme();
     behind();
+    others();
     shapes();
     lengths();
     values();
@@ -26,6 +29,41 @@ fn line(m: u32, first: &mut [i32], second: &mut [i32]) {
     say(b": ");
     asked(m, first, second);
     mark(transform::transform(m, first, second));
+    say(b" of");
+    area(first);
+    area(second);
+    say(b"\n");
+}
+
+// The core: how many entries, and both areas afterwards.
+fn run_line(m: u32, first: &mut [i32], second: &mut [i32]) {
+    say(b"run m=");
+    number(m as u64);
+    area(first);
+    area(second);
+    say(b": ");
+    asked(m, first, second);
+    number(transform::run(m, first, second) as u64);
+    say(b" of");
+    area(first);
+    area(second);
+    say(b"\n");
+}
+
+// The small caller: its two numbers, and both areas afterwards.
+fn look_line(m: u32, first: &mut [i32], second: &mut [i32]) {
+    say(b"look m=");
+    number(m as u64);
+    area(first);
+    area(second);
+    say(b": ");
+    asked(m, first, second);
+    let seen = caller::look(m, first, second);
+    let total = seen.total;
+    let kept = seen.kept;
+    show::signed(total);
+    say(b" and ");
+    show::signed(kept);
     say(b" of");
     area(first);
     area(second);
@@ -172,6 +210,49 @@ fn mixed() {
     line(5, &mut g, &mut h);
 }
 
+// The greatest difference of all, at the last entry; and a second area that holds anything.
+fn extreme() {
+    let mut a = [
+        32767i32,
+        -32768,
+        -32768,
+        32767,
+        -32768,
+        32767,
+        32767,
+        -32768,
+        -32768,
+        32767,
+        32767,
+        -32768,
+        32767,
+        -32768,
+        -32768,
+        32767,
+        -32768,
+        32767,
+        32767,
+        -32768,
+        32767,
+        -32768,
+        -32768,
+        32767,
+        32767,
+        -32768,
+        -32768,
+        32767,
+        -32768,
+        32767,
+        32767,
+        -32768,
+    ];
+    let mut b = [0i32; 32];
+    line(5, &mut a, &mut b);
+    let mut c = [1i32, 2, 3, 4];
+    let mut d = [2147483647i32, -2147483648, 40000, -40000];
+    line(2, &mut c, &mut d);
+}
+
 // Entries behind N: they stay, and may lie outside the range.
 fn behind() {
     let mut a = [1i32, 2, 3, 4, 2147483647, -2147483648];
@@ -180,6 +261,28 @@ fn behind() {
     let mut c = [1i32, -2, 3, -4, 5, -6, 7, -8, 40000];
     let mut d = [0i32, 0, 0, 0, 0, 0, 0, 0, -40000, 6];
     line(3, &mut c, &mut d);
+    let mut e = [7i32; 18];
+    let mut f = [-7i32; 17];
+    line(4, &mut e, &mut f);
+    let mut g = [-7i32; 33];
+    let mut h = [7i32; 34];
+    line(5, &mut g, &mut h);
+}
+
+// The core and the small caller, of an even m, an odd one, and refused.
+fn others() {
+    let mut a = [1i32, 2, 3, 4, 7];
+    let mut b = [0i32, 0, 0, 0, 9];
+    run_line(2, &mut a, &mut b);
+    look_line(2, &mut b, &mut a);
+    let mut c = [1i32, 2, 3, 4, 5, 6, 7, 8];
+    let mut d = [9i32; 9];
+    run_line(3, &mut c, &mut d);
+    look_line(3, &mut c, &mut d);
+    let mut e = [40000i32, 2, 3, 4];
+    run_line(2, &mut e, &mut b);
+    look_line(2, &mut e, &mut b);
+    look_line(3, &mut e, &mut b);
 }
 
 // Kind 1: m just outside its range, and as large as it can be; the last with short areas and a wrong value as well.

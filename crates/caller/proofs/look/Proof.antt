@@ -1,8 +1,7 @@
 -- `caller::look` meets its contract: a walk of its MIR, by hand. Both areas are lent again to `transform`, for a
 -- lifetime that is made for the part; once `front` has read the part that lifetime ends, and both areas are back, of
 -- which is known what `transform` promised of them. What needs no machine is beside this file: entry and exit in
--- Edges.antt; the three calls in Parting.antt, Reading.antt and Asking.antt; and how the promise follows in
--- SeenLaws.antt.
+-- Edges.antt; the three calls in Parting.antt, Reading.antt and Asking.antt.
 --     walk             the body, from what is had on entry to what is asked on exit
 --     look-walks, look-meets, look-spec    so it meets its contract, in the forms that the kit asks for
 -- All that it knows of its callees is that they meet their contracts.
@@ -52,12 +51,12 @@ use Rattle.transform.proofs.transform.Symbol.{name as #transform·transform}
 use Rattle.transform.proofs.transform.Met as transform-thm
 use Rattle.caller.proofs.Back.{Had}
 use Rattle.caller.proofs.Sharing.{KeptS}
-use Rattle.caller.proofs.SeenLaws.{After, seen}
+use Rattle.caller.specs.Seen.{After}
 use Rattle.caller.proofs.Parting.{Transform, Both, Meanwhile, Beside, Handing, given-transform, lent, parted}
 use Rattle.caller.proofs.Parting.{over}
 use Rattle.caller.proofs.Reading.{Front, Fronted, given-front, to-front, front-over}
 use Rattle.caller.proofs.Asking.{Other, Answered, Shared, given-other, to-other, other-over}
-use Rattle.caller.proofs.Edges.{stayed, ends, Entered, Post, opened, exits}
+use Rattle.caller.proofs.Edges.{stayed, Entered, Post, opened, exits}
 use Rattle.caller.proofs.front.Symbol as front-def
 use Rattle.caller.proofs.front.Symbol.{name as #caller·front}
 use Rattle.caller.proofs.front.Met as front-thm
@@ -171,9 +170,11 @@ module _ {M : Type 1} (𝓤 : URA M) (H : Heap 𝓤) (A : Atoms 𝓤) (W : Given
         free-held ! $ free0 ! $
         by ! (exits 𝓤 H A κ₀ κ₁ q₀ q₁ m x y mem go W m-fits z k v u (fronted .0) (answered .0) (s .0) (s .1)
         (after .first-length) (after .second-length)
-        (seen m (x .now) (y .now) (s .0) (s .1) (ends z k) after
-        (fronted .1 ∙ ap (λ (part : List ℤ). entry part 0) (handing .1))
-        (answered .1)))))))))))))))))))))))))))))))))))))
+        (record {
+          total = fronted .1 ∙ ap (λ (part : List ℤ). entry part 0) (handing .1);
+          kept = answered .1;
+          areas = after;
+        }))))))))))))))))))))))))))))))))))))
 
 module _ {M : Type 1} (𝓤 : URA M) (H : Heap 𝓤) (A : Atoms 𝓤) (W : Given 𝓤 H A) (mem : Memory → SProp 𝓤)
     (go : Routine → Fun 𝓤) where
