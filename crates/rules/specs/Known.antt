@@ -3,6 +3,8 @@
 --           Right k     what it says
 --           starred     the list, in 01's order
 --           AllRight    the one claim about the list, proved in proofs/KnownWords.antt
+--           Refused1, fourLeast, reaching     what some cases say: every call with a shape refuses 1; four times
+--                       -32,768; the messages that reach a correlation
 -- Assumes nothing: these are definitions.
 use Prim.Native.Nat.{ℕ, _≤_}
 use mathlib.Core.Path.{_≡_}

@@ -1,24 +1,25 @@
 -- For each call what is refused, and in which order: 01 "When the receiver says no".
 -- Defines:  sendRefusal h m n g      encode and partner, with n places for output and message number g
 --           pairOutcome h m a b      the pair check: a refusal 3 tells the place, then which word
---           readOutcome h m w        word reading
+--           readOutcome h m w        word reading (orNoWord: 5 where no message is found)
+--           refuseWord h m w o       the refusals of one word, its length and then its symbols, else o
 --           softRefusal h m ys       soft decoding
 --           hardRefusal h m w        hard decoding
 --           transformRefusal m y n   the transform, of two areas, the second n entries long
 -- Where a call gives no more than that it is allowed here, its own promise says what it answers then.
 -- Assumes nothing: these are definitions.
 use Prim.Native.Nat.{ℕ}
-use mathlib.Core.Bool.{Bool, not, _||_}
+use mathlib.Core.Bool.{Bool, _||_}
 use mathlib.Core.List.{List, [], _∷_}
 use mathlib.Core.Option.{Option, none, some}
 use lib.IntN.{ℤ}
 use lib.ListN.{length}
-use Rattle.rules.specs.Shape.{inM, carriers}
+use Rattle.rules.specs.Shape.{carriers}
 use Rattle.rules.specs.Word.{symbolAt}
 use Rattle.rules.specs.Pair.{golayPair}
 use Rattle.rules.specs.Soft.{softLength}
 use Rattle.rules.specs.Outcome.{Outcome, gives, refuses, allowed, refuse, refuseAt}
-use Rattle.rules.specs.Table.{badShape, badLength, shortArea, badSymbol, badMessage, messageWith, octary}
+use Rattle.rules.specs.Table.{badShape, badM, badLength, shortArea, badSymbol, badMessage, messageWith, octary}
 use Rattle.rules.specs.Table.{badValue}
 
 unfoldable pub sendRefusal : ℕ → ℕ → ℕ → ℕ → Outcome (Unit {0})
@@ -55,6 +56,6 @@ hardRefusal h m w = refuse 1 (badShape h m) (refuse 6 (octary h) (refuseWord h m
 
 unfoldable pub transformRefusal : ℕ → List ℤ → ℕ → Outcome (Unit {0})
 transformRefusal m y n =
-    refuse 1 (not (inM m))
+    refuse 1 (badM m)
     (refuse 2 (shortArea (length y) m || shortArea n m)
     (refuseAt 7 (badValue m y) [] allowed))

@@ -1,6 +1,6 @@
 -- 01's table "When the receiver says no": a test for each number.
 -- Defines:  badShape, badLength, badMessage, octary          1, 2, 4, 6: whether they are given
---           shortArea                                        2 for an area of the transform
+--           badM, shortArea                                  1 and 2 for the transform: m alone, an area
 --           badSymbol, badValue                              3, 7: the first bad place, if there is one
 --           firstBad q w                                     the first place of w whose symbol is q or more
 --           messageWith                                      5: the message whose word the symbols are, if there is one
@@ -13,7 +13,7 @@ use lib.Dec.{eqb, leb, ltb}
 use lib.IntN.{ℤ, pos}
 use lib.ListN.{length, getD}
 use Rattle.range.specs.Below.{allBelow, firstBelow}
-use Rattle.rules.specs.Shape.{inShape, phases, carriers, messages}
+use Rattle.rules.specs.Shape.{inM, inShape, phases, carriers, messages}
 use Rattle.rules.specs.Label.{labelOf}
 use Rattle.rules.specs.Word.{wordAt, symbolAt}
 use Rattle.rules.specs.Spectrum.{accepted}
@@ -21,6 +21,10 @@ use Rattle.rules.specs.Spectrum.{accepted}
 -- 1 shape: h or m is outside its range
 abbrev pub badShape : ℕ → ℕ → Bool
 badShape h m = not (inShape h m)
+
+-- for the transform, m alone
+abbrev pub badM : ℕ → Bool
+badM m = not (inM m)
 
 -- 2 length: not exactly the length named; an area shorter than N
 abbrev pub badLength : ℕ → ℕ → Bool

@@ -4,5 +4,5 @@ pub mod Pairs
 pub mod Blocks
 pub mod Shared
 pub mod Entries
-pub mod Turns
+pub mod Places
 pub mod Bounds

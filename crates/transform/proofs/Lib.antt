@@ -3,7 +3,7 @@
 pub mod Bits
 pub mod Outcomes
 pub mod Halves
-pub mod Turns
+pub mod Writing
 pub mod Stages
 pub mod Between
 pub mod Parts

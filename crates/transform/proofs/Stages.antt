@@ -19,7 +19,7 @@ use Rattle.rules.specs.Place.{digit}
 use Rattle.rules.specs.Spectrum.{accepted, stage, stages}
 use Rattle.rules.specs.Areas.{entry}
 use Rattle.spectrum.proofs.Blocks.{block-count}
-use Rattle.spectrum.proofs.Turns.{stages-turn}
+use Rattle.spectrum.proofs.Places.{stages-turn}
 use Rattle.spectrum.proofs.Bounds.{stages-most, mostEntry-le}
 use Rattle.transform.specs.Steps.{butterfly, Readable, firstAt, secondAt}
 

@@ -15,7 +15,7 @@ use Rattle.rules.specs.Areas.{entry}
 use Rattle.transform.specs.Steps.{butterfly, Start}
 use Rattle.transform.proofs.Bits.{bits-back}
 use Rattle.transform.proofs.Halves.{start-zero, start-next, start-le, butterfly-first, butterfly-second}
-use Rattle.transform.proofs.Turns.{Written, written-none, written-turn, written-trans, written-end}
+use Rattle.transform.proofs.Writing.{Written, written-none, written-turn, written-trans, written-end}
 use Rattle.transform.proofs.pass.Statement.{statement}
 use Rattle.transform.proofs.pass.Tie as tie
 
