@@ -1,6 +1,6 @@
--- A loop that writes a list place after place, seen from its own start: `Written f to₀ i₀ to i`.
--- In order: what it says; before the first turn; a turn; one loop after another; the end of the last.
--- Not here: lists filled from the front (range, Filled).  Assumes nothing.
+-- A loop that writes a list place after place, seen from its own start: `Written` (specs/Steps.antt).
+-- In order: before the first turn; a turn; one loop after another; the end of the last; the same place said in another
+-- way.  Not here: lists filled from the front (range, Filled).  Assumes nothing.
 use Prim.Native.Nat.{ℕ, _+_, _<_}
 use mathlib.Core.Path.{_≡_, refl, _∙_, ap, subst}
 use mathlib.Core.List.{List}
@@ -8,11 +8,7 @@ use lib.IntN.{ℤ}
 use lib.ListN.{length, set, length-set}
 use Rattle.range.specs.Below.{filled}
 use Rattle.range.proofs.Filled.{filled-zero, filled-turn}
-
--- whichever list d was filled up to i₀ to give to₀ is now filled up to i
-pub record Written (f : ℕ → ℤ) (to₀ : List ℤ) (i₀ : ℕ) (to : List ℤ) (i : ℕ) : Type 0 where
-  pub sized : length to ≡ length to₀
-  pub on : (d : List ℤ) → length to₀ ≡ length d → to₀ ≡ filled i₀ f d → to ≡ filled i f d
+use Rattle.transform.specs.Steps.{Written}
 
 pub written-none : (f : ℕ → ℤ) (to : List ℤ) (i : ℕ) → Written f to i to i
 written-none f to i = record { sized = refl; on = λ d l e. e }
@@ -30,3 +26,7 @@ written-trans v w = record { sized = w .sized ∙ v .sized; on = λ d l e. w .on
 
 pub written-end : (f : ℕ → ℤ) (to₀ to : List ℤ) (i n : ℕ) → Written f to₀ 0 to i → i ≡ n → to ≡ filled n f to₀
 written-end f to₀ to i n w e = w .on to₀ refl (filled-zero f to₀) ∙ ap (λ (k : ℕ). filled k f to₀) e
+
+-- the same place, said in another way
+pub written-to : {f : ℕ → ℤ} {xs ys : List ℤ} {i j k : ℕ} → j ≡ k → Written f xs i ys j → Written f xs i ys k
+written-to {f} {xs} {ys} {i} e w = subst (Written f xs i ys) e w

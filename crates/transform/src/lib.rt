@@ -9,7 +9,7 @@
 use kinds::Place;
 use kinds::Refusal;
 use kinds::Search;
-ghost use Prim.Native.Nat.{_≤_, _<_};
+ghost use Prim.Native.Nat.{_+_, _≤_, _<_};
 ghost use mathlib.Core.Path.{_≡_};
 ghost use mathlib.Core.Bool.{not};
 ghost use lib.IntN.{_+ℤ_, _-ℤ_};
@@ -25,7 +25,7 @@ ghost use Rattle.rules.specs.Areas.{entry};
 ghost use Rattle.kinds.specs.Told.{searchTold};
 ghost use Rattle.transform.specs.Told.{judgedTold, Ran, Handed};
 ghost use Rattle.transform.specs.Remains.{Remains};
-ghost use Rattle.transform.specs.Steps.{butterfly, firstAt, secondAt, Readable, Taken};
+ghost use Rattle.transform.specs.Steps.{butterfly, firstAt, secondAt, Readable, Block, Written, Taken};
 
 // The least and the greatest input that is taken.
 const WIDEST: i32 = 32768;
@@ -182,24 +182,44 @@ fn stage(s: usize, n: usize, from: &[i32], to: &mut [i32])
     pass(s, n, from, to);
 }
 
-// One stage: in each block of 2 s entries, the sums of its two halves, then the first half less the second.
+// One stage of any stride: block after block of 2 s entries.
 fn pass(s: usize, n: usize, from: &[i32], to: &mut [i32])
     requires { ⌜ Readable s n (now from) ⌝ }
     requires { ⌜ n ≤ length (now to) ⌝ }
     ensures { λ _. ⌜ now (to .exit) ≡ filled n (butterfly s (entry (now (from .entry)))) (now (to .entry)) ⌝ }
 {
-    let mut i = 0;
-    while i < n {
-        let middle = i + s;
-        while i < middle {
-            to[i] = sum(from, i, i + s);
-            i += 1;
-        }
-        let end = i + s;
-        while i < end {
-            to[i] = less(from, i - s, i);
-            i += 1;
-        }
+    let mut p = 0;
+    while p < n {
+        sums(s, p, from, to);
+        differences(s, p, from, to);
+        p = p + s + s;
+    }
+}
+
+// The first half of the block that begins at p: the sums of its entries and those of the second half.
+fn sums(s: usize, p: usize, from: &[i32], to: &mut [i32])
+    requires { ⌜ Block s p (now from) (now to) ⌝ }
+    ensures { λ _. ⌜ Written (butterfly s (entry (now (from .entry)))) (now (to .entry)) p (now (to .exit)) (p + s) ⌝ }
+{
+    let end = p + s;
+    let mut i = p;
+    while i < end {
+        to[i] = sum(from, i, i + s);
+        i += 1;
+    }
+}
+
+// The second half: the entries of the first half less its own.
+fn differences(s: usize, p: usize, from: &[i32], to: &mut [i32])
+    requires { ⌜ Block s p (now from) (now to) ⌝ }
+    ensures { λ _. ⌜ Written (butterfly s (entry (now (from .entry)))) (now (to .entry)) (p + s) (now (to .exit))
+        (p + s + s) ⌝ }
+{
+    let end = p + s + s;
+    let mut i = p + s;
+    while i < end {
+        to[i] = less(from, i - s, i);
+        i += 1;
     }
 }
 
