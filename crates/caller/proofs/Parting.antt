@@ -44,8 +44,8 @@ use Rattle.transform.specs.Remains.{RemainsOf, Remains}
 use Rattle.transform.proofs.Again.{Own, under, Kept-of, lends}
 use Rattle.transform.proofs.Calling.{vals, passed}
 use Rattle.transform.proofs.transform as transform
-use Rattle.caller.proofs.Back.{Had, Tail, part-back}
 use Rattle.caller.specs.Seen.{After}
+use Rattle.caller.proofs.Back.{Had, Tail, part-back}
 use Rattle.caller.proofs.SeenLaws.{after-first, after-second}
 
 module _ (m : ℕ) (x y : RefT (List ℤ)) where

@@ -7,9 +7,9 @@
 --     make            any list of values can be given such names
 --     refill          memory that holds as many elements, beside those halves, is updated to hold the placeholders
 -- The definitions and `length-holes` assume nothing. The other lemmas: Assumes `Given`.
-use mathlib.Core.Path.{_≡_, refl, sym, ap}
 use Prim.Native.Nat.{ℕ, suc, _+_}
 use native.Mathlib.Nat.{suc-ne-zero, suc-inj}
+use mathlib.Core.Path.{_≡_, refl, sym, ap}
 use mathlib.Core.Bool.{Bool, true, false}
 use mathlib.Core.List.{List, [], _∷_}
 use lib.ListN.{length}

@@ -12,8 +12,8 @@
 --     finally-unique    no two last contents can be promised of one area. The kit's `finally-one`, side by side
 --     remains-unique  no two endings can be promised of the two areas of a transform
 -- The lemmas on lists assume nothing. The others: Assumes `Given`.
-use mathlib.Core.Path.{_≡_, refl, sym, _∙_, ap}
 use Prim.Native.Nat.{ℕ, suc, _+_}
+use mathlib.Core.Path.{_≡_, refl, sym, _∙_, ap}
 use mathlib.Core.Bool.{Bool, true, false}
 use mathlib.Core.List.{List, [], _∷_, _++_, map}
 use lib.IntN.{ℤ}

@@ -49,9 +49,9 @@ use Rattle.transform.proofs.Walking.{to-end, copies, reborrows, free-held, size
 use Rattle.transform.proofs.transform.Symbol as transform-def
 use Rattle.transform.proofs.transform.Symbol.{name as #transform·transform}
 use Rattle.transform.proofs.transform.Met as transform-thm
+use Rattle.caller.specs.Seen.{After}
 use Rattle.caller.proofs.Back.{Had}
 use Rattle.caller.proofs.Sharing.{KeptS}
-use Rattle.caller.specs.Seen.{After}
 use Rattle.caller.proofs.Parting.{Transform, Both, Meanwhile, Beside, Handing, given-transform, lent, parted}
 use Rattle.caller.proofs.Parting.{over}
 use Rattle.caller.proofs.Reading.{Front, Fronted, given-front, to-front, front-over}
@@ -63,8 +63,8 @@ use Rattle.caller.proofs.front.Met as front-thm
 use Rattle.caller.proofs.other.Symbol as other-def
 use Rattle.caller.proofs.other.Symbol.{name as #caller·other}
 use Rattle.caller.proofs.other.Met as other-thm
-use Rattle.caller.proofs.look.Key.{name as #caller·look}
 use Rattle.caller.proofs.look as look
+use Rattle.caller.proofs.look.Key.{name as #caller·look}
 use Rattle.caller.proofs.look.Statement as stated
 use Rattle.caller.proofs.look.Code as code
 

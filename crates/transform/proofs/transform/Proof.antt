@@ -57,8 +57,8 @@ use Rattle.transform.proofs.Walking.{differs, to-end, copies, fronts, r
 use Rattle.transform.proofs.run.Symbol as run-def
 use Rattle.transform.proofs.run.Symbol.{name as #transform·run}
 use Rattle.transform.proofs.run.Met as run-thm
-use Rattle.transform.proofs.transform.Key.{name as #transform·transform}
 use Rattle.transform.proofs.transform as transform
+use Rattle.transform.proofs.transform.Key.{name as #transform·transform}
 use Rattle.transform.proofs.transform.Statement as stated
 use Rattle.transform.proofs.transform.Code as code
 
