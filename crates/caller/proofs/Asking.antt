@@ -35,7 +35,8 @@ use denote.Steps.{owned, facts, heard, nothing}
 use denote.Triple.Spec.{tripleOf}
 use denote.Triple.Statement.{Contract}
 use denote.Triple.Clauses.{ensured, lasts}
-use Rattle.rules.specs.Areas.{entry, inFirst}
+use Rattle.range.specs.Signed.{entry}
+use Rattle.rules.specs.Areas.{inFirst}
 use Rattle.transform.proofs.Again.{under}
 use Rattle.transform.proofs.Calling.{vals, passed}
 use Rattle.caller.proofs.Back.{Had}

@@ -31,7 +31,7 @@ use denote.Steps.{facts, heard, nothing}
 use denote.Triple.Spec.{tripleOf}
 use denote.Triple.Statement.{Contract}
 use denote.Triple.Clauses.{ensured, lasts}
-use Rattle.rules.specs.Areas.{entry}
+use Rattle.range.specs.Signed.{entry}
 use Rattle.transform.proofs.Again.{under}
 use Rattle.caller.proofs.Back.{Had}
 use Rattle.caller.proofs.Sharing.{Shr, KeptS, shares, shared-back}

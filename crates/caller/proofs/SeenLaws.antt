@@ -10,13 +10,14 @@ use lib.IntN.{ℤ, pos}
 use lib.ListN.{length, drop}
 use lib.Pow.{pow-pos}
 use lib.Seq.{drop-append-seam}
+use Rattle.range.specs.Signed.{entry}
 use Rattle.range.proofs.Lists.{listBelow-at}
 use Rattle.range.proofs.Filled.{filled-at}
 use Rattle.rules.specs.Shape.{carriers}
 use Rattle.rules.specs.Spectrum.{spectrumAt, stages}
 use Rattle.rules.specs.Outcome.{refuses, allowed}
 use Rattle.rules.specs.Refusal.{transformRefusal}
-use Rattle.rules.specs.Areas.{entry, inFirst, firstAfter, secondAfter, partOf, partLength, partInFirst}
+use Rattle.rules.specs.Areas.{inFirst, firstAfter, secondAfter, partOf, partLength, partInFirst}
 use Rattle.transform.specs.Told.{Ran}
 use Rattle.transform.proofs.Parts.{ran-refused}
 use Rattle.caller.specs.declared.Ends.{Ends}

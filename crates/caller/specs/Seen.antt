@@ -11,7 +11,8 @@ use mathlib.Core.Bool.{true, false, cond}
 use mathlib.Core.List.{List}
 use lib.IntN.{ℤ}
 use lib.ListN.{length, drop}
-use Rattle.rules.specs.Areas.{entry, inFirst, firstAfter, secondAfter, partOf, partLength, partInFirst}
+use Rattle.range.specs.Signed.{entry}
+use Rattle.rules.specs.Areas.{inFirst, firstAfter, secondAfter, partOf, partLength, partInFirst}
 use Rattle.caller.specs.declared.Ends.{Ends}
 
 pub record After (m : ℕ) (a b a′ b′ : List ℤ) : Type 0 where

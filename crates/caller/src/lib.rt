@@ -2,7 +2,8 @@
 // contract is plain. So the resource in the transform's promise is enough to say what the areas hold afterwards.
 ghost use mathlib.Core.Path.{_≡_};
 ghost use mathlib.Core.Bool.{cond};
-ghost use Rattle.rules.specs.Areas.{entry, inFirst};
+ghost use Rattle.range.specs.Signed.{entry};
+ghost use Rattle.rules.specs.Areas.{inFirst};
 ghost use Rattle.caller.specs.Seen.{Seen};
 
 // What is seen: the first entry of the part, and then the first entry of the second area for even m, of the first for

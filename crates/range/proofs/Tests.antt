@@ -1,10 +1,10 @@
--- Laws of tests, and of allBelow and firstBelow. In order: below and at least; both sides of a conjunction, a test not
--- passed; all, from each place, at each place, refuted; the first, found, not found, and back.
+-- Laws of tests, and of allBelow and firstBelow. In order: below and at least; both sides of a conjunction and of a disjunction,
+-- a test not passed; all, from each place, at each place, refuted; the first, found, not found, and back.
 -- Not here: sums and counts (Sums), lists (Lists).  Assumes nothing.
 use Prim.Native.Nat.{ℕ, zero, suc, _<_, zero-le, suc-le-suc}
 use native.Mathlib.Nat.{not-suc-le-zero, le-of-suc-le-suc}
 use mathlib.Core.Path.{_≡_, refl, sym, _∙_, ap, subst}
-use mathlib.Core.Bool.{Bool, true, false, not, _&&_, false≢true, Bool·not-not}
+use mathlib.Core.Bool.{Bool, true, false, not, _&&_, _||_, false≢true, Bool·not-not}
 use mathlib.Core.Option.{Option, none, some}
 use lib.Dec.{leb, ltb}
 use borrow.Author.Tests.{leb-true, leb-false, le-ltb, lt-ltb}
@@ -32,6 +32,11 @@ and-right false b e = absurd (false≢true e)
 
 pub and-of : (a b : Bool) → a ≡ true → b ≡ true → (a && b) ≡ true
 and-of a b p q = rw (p, q)
+
+-- and of a disjunction that fails
+pub or-false : (a b : Bool) → (a || b) ≡ false → (a ≡ false) × (b ≡ false)
+or-false true b e = absurd (false≢true (sym e))
+or-false false b e = (refl, e)
 
 -- a test that is not passed fails
 pub false-of-not-true : (b : Bool) → (b ≡ true → ⊥) → b ≡ false

@@ -10,9 +10,9 @@ use mathlib.Core.Bool.{Bool, true, false, cond}
 use mathlib.Core.List.{List}
 use lib.Dec.{eqb, lit≤}
 use lib.IntN.{ℤ, pos}
-use lib.ListN.{getD, replicate}
+use lib.ListN.{replicate}
 use lib.Signed.{leZ}
-use Rattle.range.specs.Signed.{sumℤ, negatedIf}
+use Rattle.range.specs.Signed.{sumℤ, negatedIf, entry}
 use Rattle.rules.specs.Shape.{carriers, messageBits}
 use Rattle.rules.specs.Label.{labels, labelOf}
 use Rattle.rules.specs.Word.{wordAt}
@@ -23,7 +23,7 @@ use Rattle.rules.proofs.BestLaws.{best-of-equal}
 zeros : ℕ → List ℤ
 zeros n = replicate n (pos 0)
 
-zeros-at : (n i : ℕ) → getD (zeros n) i (pos 0) ≡ pos 0
+zeros-at : (n i : ℕ) → entry (zeros n) i ≡ pos 0
 unfolding zeros
 zeros-at zero i = refl
 zeros-at (suc n) zero = refl

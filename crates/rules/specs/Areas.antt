@@ -1,27 +1,24 @@
 -- What the transform leaves in its two areas, and the part that it hands back: 01 "The transform by itself".
 -- Throughout, a and b are what the first and the second area hold before.
--- Defines:  entry a i             entry i of an area
---           inFirst m             whether the last stage writes the first area: for even m
+-- Defines:  inFirst m             whether the last stage writes the first area: for even m
 --           firstAfter m a b      what the first area holds afterwards, and
 --           secondAfter m a b     the second: one the spectrum, the other what stood after stage m - 1
 --           partOf m a b          the part handed back: the spectrum, or nothing where the transform is refused
 --           partLength m a b      how long it is
 --           partInFirst m a b     whether it stands at the front of the first area: for even m, and where refused
--- Laws: transform, proofs/Parts.antt; samples: proofs/Samples.antt.  Assumes nothing: these are definitions.
+-- Laws: transform, proofs/Parts.antt; samples: proofs/AreaSamples.antt.  Assumes nothing: these are definitions.
 use Prim.Native.Nat.{ℕ, _-_, _%_}
 use mathlib.Core.Bool.{Bool, true, cond}
 use mathlib.Core.List.{List, []}
 use lib.Dec.{eqb}
-use lib.IntN.{ℤ, pos}
-use lib.ListN.{length, getD}
+use lib.IntN.{ℤ}
+use lib.ListN.{length}
 use Rattle.range.specs.Below.{listBelow, filled}
+use Rattle.range.specs.Signed.{entry}
 use Rattle.rules.specs.Shape.{carriers}
 use Rattle.rules.specs.Spectrum.{spectrumAt, stages}
 use Rattle.rules.specs.Outcome.{leaves}
 use Rattle.rules.specs.Refusal.{transformRefusal}
-
-abbrev pub entry : List ℤ → ℕ → ℤ
-entry a i = getD a i (pos 0)
 
 abbrev pub inFirst : ℕ → Bool
 inFirst m = eqb (m % 2) 0

@@ -10,9 +10,8 @@ use Prim.Native.Nat.{ℕ, zero, suc, _+_, _*_}
 use mathlib.Core.Bool.{cond}
 use mathlib.Core.List.{List}
 use lib.Dec.{eqb}
-use lib.IntN.{ℤ, pos, negℤ}
-use lib.ListN.{getD}
-use Rattle.range.specs.Signed.{sumℤ, negatedIf}
+use lib.IntN.{ℤ, negℤ}
+use Rattle.range.specs.Signed.{sumℤ, negatedIf, entry}
 use Rattle.rules.specs.Shape.{carriers}
 use Rattle.rules.specs.Word.{wordAt}
 
@@ -30,8 +29,8 @@ heardFour re im (suc (suc (suc s))) = negℤ im
 
 unfoldable pub heard : ℕ → List ℤ → ℕ → ℕ → ℤ
 heard h ys i s =
-    cond (eqb h 1) (heardTwo (getD ys i (pos 0)) s)
-    (heardFour (getD ys (2 * i) (pos 0)) (getD ys (2 * i + 1) (pos 0)) s)
+    cond (eqb h 1) (heardTwo (entry ys i) s)
+    (heardFour (entry ys (2 * i)) (entry ys (2 * i + 1)) s)
 
 unfoldable pub correlation : ℕ → ℕ → List ℤ → ℕ → ℤ
 correlation h m ys l = sumℤ (carriers m) (λ i. heard h ys i (wordAt h m l i))

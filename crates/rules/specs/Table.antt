@@ -10,9 +10,10 @@ use mathlib.Core.Bool.{Bool, not}
 use mathlib.Core.List.{List}
 use mathlib.Core.Option.{Option}
 use lib.Dec.{eqb, leb, ltb}
-use lib.IntN.{ℤ, pos}
-use lib.ListN.{length, getD}
+use lib.IntN.{ℤ}
+use lib.ListN.{length}
 use Rattle.range.specs.Below.{allBelow, firstBelow}
+use Rattle.range.specs.Signed.{entry}
 use Rattle.rules.specs.Shape.{inM, inShape, phases, carriers, messages}
 use Rattle.rules.specs.Label.{labelOf}
 use Rattle.rules.specs.Word.{wordAt, symbolAt}
@@ -55,4 +56,4 @@ octary h = eqb h 3
 
 -- 7 value: one of the first N lies outside its range
 unfoldable pub badValue : ℕ → List ℤ → Option ℕ
-badValue m y = firstBelow (carriers m) (λ i. not (accepted (getD y i (pos 0))))
+badValue m y = firstBelow (carriers m) (λ i. not (accepted (entry y i)))

@@ -11,9 +11,9 @@ use mathlib.Core.List.{List}
 use lib.IntN.{ℤ}
 use lib.ListN.{length}
 use Rattle.range.specs.Below.{filled}
+use Rattle.range.specs.Signed.{entry}
 use Rattle.rules.specs.Shape.{carriers}
 use Rattle.rules.specs.Spectrum.{stages}
-use Rattle.rules.specs.Areas.{entry}
 use Rattle.rules.proofs.Range.{inM-range}
 use Rattle.transform.specs.Steps.{butterfly, Readable, Taken, firstAt, secondAt}
 use Rattle.transform.proofs.Stages.{Holds, holds-readable, holds-turn, firstAt-none, secondAt-none}

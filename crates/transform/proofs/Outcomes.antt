@@ -2,26 +2,22 @@
 -- is refused. In order: the shape refused; a length; a value; nothing; what follows where nothing is; what the place of
 -- a refused value says.  Assumes nothing.
 use Prim.Native.Nat.{ℕ, _≤_, _<_}
-use mathlib.Core.Path.{_≡_, refl, sym}
-use mathlib.Core.Bool.{Bool, true, false, not, _||_, false≢true}
+use mathlib.Core.Path.{_≡_, sym}
+use mathlib.Core.Bool.{true, false, not, _||_}
 use mathlib.Core.List.{List, [], _∷_}
 use mathlib.Core.Option.{none, some}
 use lib.IntN.{ℤ}
 use lib.ListN.{length}
 use borrow.Author.Tests.{ltb-false, lt-ltb, le-ltb, not-true, not-false}
-use Rattle.range.proofs.Tests.{firstBelow-at, firstBelow-nowhere}
+use Rattle.range.specs.Signed.{entry}
+use Rattle.range.proofs.Tests.{or-false, firstBelow-at, firstBelow-nowhere}
 use Rattle.rules.specs.Shape.{inM, carriers}
 use Rattle.rules.specs.Spectrum.{accepted}
 use Rattle.rules.specs.Outcome.{refuses, allowed, refuseAt}
 use Rattle.rules.specs.Table.{shortArea, badValue}
 use Rattle.rules.specs.Refusal.{transformRefusal}
-use Rattle.rules.specs.Areas.{entry}
 use Rattle.rules.proofs.OutcomeLaws.{refuse-gives, refuseAt-gives}
 use Rattle.transform.specs.Steps.{Taken}
-
-or-false : (s t : Bool) → (s || t) ≡ false → (s ≡ false) × (t ≡ false)
-or-false true t e = absurd (false≢true (sym e))
-or-false false t e = (refl, e)
 
 module _ (m : ℕ) (a : List ℤ) (n : ℕ) where
   pub refusal-shape : inM m ≡ false → refuses 1 [] ≡ transformRefusal m a n

@@ -13,11 +13,11 @@ use lib.IntN.{ℤ, pos}
 use lib.ListN.{length}
 use lib.Pow.{pow-pos}
 use Rattle.range.specs.Below.{filled}
+use Rattle.range.specs.Signed.{entry}
 use Rattle.range.proofs.Filled.{length-filled, filled-at, filled-cong, filled-filled, filled-same}
 use Rattle.rules.specs.Shape.{greatestM, carriers}
 use Rattle.rules.specs.Place.{digit}
 use Rattle.rules.specs.Spectrum.{accepted, stage, stages}
-use Rattle.rules.specs.Areas.{entry}
 use Rattle.spectrum.proofs.Blocks.{block-count}
 use Rattle.spectrum.proofs.Places.{stages-turn}
 use Rattle.spectrum.proofs.Bounds.{stages-most, mostEntry-le}

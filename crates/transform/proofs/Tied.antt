@@ -15,11 +15,12 @@ use lib.ListN.{length}
 use lib.Pow.{pow-pos}
 use denote.Ref.{RefT, ptr, now}
 use Rattle.range.specs.Below.{listBelow, filled}
+use Rattle.range.specs.Signed.{entry}
 use Rattle.range.proofs.Lists.{length-listBelow}
 use Rattle.rules.specs.Shape.{carriers}
 use Rattle.rules.specs.Spectrum.{spectrumAt, stages}
 use Rattle.rules.specs.Refusal.{transformRefusal}
-use Rattle.rules.specs.Areas.{entry, inFirst, firstAfter, secondAfter, partOf, partLength, partInFirst}
+use Rattle.rules.specs.Areas.{inFirst, firstAfter, secondAfter, partOf, partLength, partInFirst}
 use Rattle.kinds.specs.declared.Refusal.{Refusal}
 use Rattle.transform.specs.declared.Judged.{Judged}
 use Rattle.transform.specs.declared.Judged.the-variants.{Allowed, Refused}

@@ -19,9 +19,9 @@ use lib.IntN.{ℤ, _+ℤ_, _-ℤ_}
 use lib.ListN.{length}
 use lib.Signed.{mag}
 use Rattle.range.specs.Below.{filled}
+use Rattle.range.specs.Signed.{entry}
 use Rattle.rules.specs.Shape.{inM, carriers}
 use Rattle.rules.specs.Spectrum.{accepted, stages}
-use Rattle.rules.specs.Areas.{entry}
 
 unfoldable pub butterfly : ℕ → (ℕ → ℤ) → ℕ → ℤ
 butterfly s y i = cond (eqb (i / s % 2) 0) (y i +ℤ y (i + s)) (y (i - s) -ℤ y i)

@@ -3,8 +3,8 @@
 --           Ran m a b n a′ b′       the promise of `run`: how many entries it gives, and both areas afterwards
 --           Handed m x y r          what the part r is that the transform hands back, of the areas x and y: what it
 --                                   holds, and where it stands
--- What is left of the two areas beside the part is in Remains.antt.
--- Laws: proofs/Parts.antt, Unique.antt.  Assumes nothing: these are definitions.
+-- What remains of the two areas beside the part is in Remains.antt.
+-- Laws: proofs/Parts.antt, Unique.antt, Tied.antt.  Assumes nothing: these are definitions.
 use Prim.Native.Nat.{ℕ}
 use mathlib.Core.Path.{_≡_}
 use mathlib.Core.Bool.{cond}

@@ -7,7 +7,7 @@ use lib.IntN.{ℤ, pos}
 use lib.ListN.{length}
 use denote.Ref.{now}
 use borrow.Author.Needs.{needs}
-use Rattle.rules.specs.Areas.{entry}
+use Rattle.range.specs.Signed.{entry}
 use Rattle.caller.proofs.front.Statement.{statement}
 use Rattle.caller.proofs.front.Tie as tie
 

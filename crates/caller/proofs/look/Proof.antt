@@ -43,7 +43,7 @@ use denote.Triple.Statement.{Triple}
 use denote.Triple.Call.{calls-at}
 use denote.Triple.Table.{entered, cited}
 use denote.Triple.Walked.{goes-none, goes-slice, Walks, walked, walk-meets}
-use Rattle.rules.specs.Areas.{entry}
+use Rattle.range.specs.Signed.{entry}
 use Rattle.transform.proofs.Again.{Own}
 use Rattle.transform.proofs.Walking.{to-end, copies, reborrows, free-held, sized}
 use Rattle.transform.proofs.transform.Symbol as transform-def

@@ -7,8 +7,8 @@ use native.Mathlib.Omega.{arith}
 use mathlib.Core.Path.{sym, _∙_}
 use lib.ListN.{length}
 use denote.Ref.{now}
+use Rattle.range.specs.Signed.{entry}
 use Rattle.range.proofs.SumsSigned.{mag-sub}
-use Rattle.rules.specs.Areas.{entry}
 use Rattle.transform.specs.Steps.{butterfly, Written}
 use Rattle.transform.proofs.Bits.{bits-back}
 use Rattle.transform.proofs.Halves.{butterfly-second}

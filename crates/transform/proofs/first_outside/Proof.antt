@@ -8,9 +8,9 @@ use mathlib.Core.Bool.{Bool, false, not}
 use denote.Ref.{now}
 use borrow.Author.Count.{below-none, below-more}
 use borrow.Author.Needs.{needs}
+use Rattle.range.specs.Signed.{entry}
 use Rattle.range.proofs.Tests.{firstBelow-some, firstBelow-none}
 use Rattle.rules.specs.Spectrum.{accepted}
-use Rattle.rules.specs.Areas.{entry}
 use Rattle.transform.proofs.Bits.{bits-back}
 use Rattle.transform.proofs.first_outside.Statement.{statement}
 use Rattle.transform.proofs.first_outside.Tie as tie

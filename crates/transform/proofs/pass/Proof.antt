@@ -8,7 +8,7 @@ use mathlib.Core.List.{List}
 use lib.IntN.{ℤ}
 use lib.ListN.{length}
 use denote.Ref.{now}
-use Rattle.rules.specs.Areas.{entry}
+use Rattle.range.specs.Signed.{entry}
 use Rattle.transform.specs.Steps.{butterfly, Start, Block, Written}
 use Rattle.transform.proofs.Halves.{start-zero, start-next, start-le}
 use Rattle.transform.proofs.Writing.{written-none, written-trans, written-end}

@@ -7,7 +7,7 @@ use lib.IntN.{ℤ}
 use denote.Ref.{now}
 use borrow.Author.Needs.{needs}
 use Rattle.range.specs.Below.{filled}
-use Rattle.rules.specs.Areas.{entry}
+use Rattle.range.specs.Signed.{entry}
 use Rattle.transform.specs.Steps.{butterfly, Readable}
 use Rattle.transform.proofs.stage.Statement.{statement}
 use Rattle.transform.proofs.stage.Tie as tie
