@@ -58,16 +58,24 @@ module _ (m n : ℕ) (a b : List ℤ) (t : Taken m a b) (size : n ≡ carriers m
     pub between-second : length second ≡ length b
     between-second = ap length (v .there) ∙ length-secondAt m a b (t .first) (t .second) k
 
-    -- a stage that reads an area which holds the last stage
+    -- one stage more: what stands then, from what each area holds
+    onward : k < m → {first′ second′ : List ℤ} → first′ ≡ firstAt m (suc k) a → second′ ≡ secondAt m (suc k) a b →
+        Between m a b first′ second′ (s / 2) (k + 1)
+    onward l p q =
+        rw (add-one k) (record { count = l; stride = stride-half m k s l (v .stride); here = p; there = q })
+
+    -- a stage that reads an area which holds the last stage, and writes the other, which then holds this one
     module _ (l : k < m) (from : List ℤ) (h : Holds m k (entry a) from) where
       readable : Readable (s / 2) n from
       readable =
           rw (stride-half m k s l (v .stride), size)
           (holds-readable m k (entry a) from h l (inM-range m (t .range) .1) (t .values))
 
-      turned : (to : List ℤ) →
-          filled n (butterfly (s / 2) (entry from)) to ≡ filled (carriers m) (stages m (suc k) (entry a)) to
-      turned to = rw (stride-half m k s l (v .stride), size) (holds-turn m k (entry a) from h l to)
+      turned : {to was after : List ℤ} → after ≡ filled n (butterfly (s / 2) (entry from)) to → to ≡ was →
+          after ≡ filled (carriers m) (stages m (suc k) (entry a)) was
+      turned {to} e q =
+          e ∙ rw (stride-half m k s l (v .stride), size) (holds-turn m k (entry a) from h l to)
+          ∙ ap (filled (carriers m) (stages m (suc k) (entry a))) q
 
     module _ (l : k < m) (e : k % 2 ≡ 0) where
       holds-first : Holds m k (entry a) first
@@ -78,14 +86,9 @@ module _ (m n : ℕ) (a b : List ℤ) (t : Taken m a b) (size : n ≡ carriers m
 
       pub between-even : (after : List ℤ) → after ≡ filled n (butterfly (s / 2) (entry first)) second →
           Between m a b first after (s / 2) (k + 1)
-      between-even after q = rw (add-one k) (record {
-        count = l;
-        stride = stride-half m k s l (v .stride);
-        here = v .here ∙ firstAt-stays m a b (t .first) (t .second) k e;
-        there = q ∙ turned l first holds-first second
-            ∙ ap (filled (carriers m) (stages m (suc k) (entry a))) (v .there)
-            ∙ secondAt-turn m a b (t .first) (t .second) k e;
-      })
+      between-even after q =
+          onward l (v .here ∙ firstAt-stays m a b (t .first) (t .second) k e)
+          (turned l first holds-first q (v .there) ∙ secondAt-turn m a b (t .first) (t .second) k e)
 
     module _ (l : k < m) (e : k % 2 ≡ 1) where
       holds-second : Holds m k (entry a) second
@@ -96,11 +99,6 @@ module _ (m n : ℕ) (a b : List ℤ) (t : Taken m a b) (size : n ≡ carriers m
 
       pub between-odd : (after : List ℤ) → after ≡ filled n (butterfly (s / 2) (entry second)) first →
           Between m a b after second (s / 2) (k + 1)
-      between-odd after q = rw (add-one k) (record {
-        count = l;
-        stride = stride-half m k s l (v .stride);
-        here = q ∙ turned l second holds-second first
-            ∙ ap (filled (carriers m) (stages m (suc k) (entry a))) (v .here)
-            ∙ firstAt-turn m a b (t .first) (t .second) k e;
-        there = v .there ∙ secondAt-stays m a b (t .first) (t .second) k e;
-      })
+      between-odd after q =
+          onward l (turned l second holds-second q (v .here) ∙ firstAt-turn m a b (t .first) (t .second) k e)
+          (v .there ∙ secondAt-stays m a b (t .first) (t .second) k e)

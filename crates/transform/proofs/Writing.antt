@@ -1,7 +1,9 @@
--- A loop that writes a list place after place, seen from its own start: `Written` (specs/Steps.antt).
--- In order: before the first turn; a turn; one loop after another; the end of the last; the same place said in another
--- way.  Not here: lists filled from the front (range, Filled).  Assumes nothing.
-use Prim.Native.Nat.{ℕ, _+_, _<_}
+-- A loop that writes a list place after place, seen from its own start: `Written` (specs/Steps.antt), and with the loop's
+-- ends `Filling`. In order: before the first turn; a turn; one loop after another; the end of the last; the same of a
+-- loop from p to e, whose end is e.  Not here: lists filled from the front (range, Filled).  Assumes nothing.
+use Prim.Native.Nat.{ℕ, _+_, _≤_, _<_}
+use native.Mathlib.Nat.{le-refl}
+use native.Mathlib.Omega.{arith}
 use mathlib.Core.Path.{_≡_, refl, _∙_, ap, subst}
 use mathlib.Core.List.{List}
 use lib.IntN.{ℤ}
@@ -27,6 +29,24 @@ written-trans v w = record { sized = w .sized ∙ v .sized; on = λ d l e. w .on
 pub written-end : (f : ℕ → ℤ) (to₀ to : List ℤ) (i n : ℕ) → Written f to₀ 0 to i → i ≡ n → to ≡ filled n f to₀
 written-end f to₀ to i n w e = w .on to₀ refl (filled-zero f to₀) ∙ ap (λ (k : ℕ). filled k f to₀) e
 
--- the same place, said in another way
-pub written-to : {f : ℕ → ℤ} {xs ys : List ℤ} {i j k : ℕ} → j ≡ k → Written f xs i ys j → Written f xs i ys k
-written-to {f} {xs} {ys} {i} e w = subst (Written f xs i ys) e w
+-- a loop from p to e stands at i
+pub record Filling (f : ℕ → ℤ) (d : List ℤ) (p e : ℕ) (d′ : List ℤ) (i : ℕ) : Type 0 where
+  pub from : p ≤ i
+  pub to : i ≤ e
+  pub written : Written f d p d′ i
+
+pub filling-none : (f : ℕ → ℤ) (d : List ℤ) (p e : ℕ) → p ≤ e → Filling f d p e d p
+filling-none f d p e h = record { from = le-refl p; to = h; written = written-none f d p }
+
+module _ {f : ℕ → ℤ} {d : List ℤ} {p e : ℕ} {d′ : List ℤ} {i : ℕ} (w : Filling f d p e d′ i) where
+  pub filling-turn : {v : ℤ} → i < e → i < length d′ → v ≡ f i → Filling f d p e (set d′ i v) (i + 1)
+  filling-turn {v} l h q = record {
+    from = omega (arith, w .from);
+    to = omega (arith, l);
+    written = written-turn f d p d′ i v (w .written) (omega (arith, h, w .written .sized)) q;
+  }
+
+  pub filling-end : e ≤ i → Written f d p d′ e
+  filling-end l =
+      let q : i ≡ e = omega (arith, w .to) in
+      subst (Written f d p d′) q (w .written)

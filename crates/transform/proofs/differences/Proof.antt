@@ -1,24 +1,22 @@
 -- `transform::differences` meets its contract: place after place of the second half of a block it writes what the stage
--- writes. Invariant: what was written up to the middle is now written up to i. Measure: the places left of the half.
+-- writes. Invariant: a loop from the middle to the end, which writes, stands at i. Measure: the places left of the half.
 -- Assumes nothing.
-use Prim.Native.Nat.{_+_, _-_, _≤_, _<_, _^_}
-use native.Mathlib.Nat.{le-refl}
+use Prim.Native.Nat.{_+_, _-_, _<_, _^_}
 use native.Mathlib.Omega.{arith}
 use mathlib.Core.Path.{sym, _∙_}
 use lib.ListN.{length}
 use denote.Ref.{now}
 use Rattle.range.specs.Signed.{entry}
 use Rattle.range.proofs.SumsSigned.{mag-sub}
-use Rattle.transform.specs.Steps.{butterfly, Written}
+use Rattle.transform.specs.Steps.{butterfly}
 use Rattle.transform.proofs.Bits.{bits-back}
 use Rattle.transform.proofs.Halves.{butterfly-second}
-use Rattle.transform.proofs.Writing.{written-none, written-turn, written-to}
+use Rattle.transform.proofs.Writing.{Filling, filling-none, filling-turn, filling-end}
 use Rattle.transform.proofs.differences.Statement.{statement}
 use Rattle.transform.proofs.differences.Tie as tie
 
 abbrev Inv-loop : tie.InvT-loop
-Inv-loop s p from to₀ end i₀ to i =
-    (p + s ≤ i) × (i ≤ end) × Written (butterfly s (entry from)) to₀ (p + s) to i
+Inv-loop s p from to₀ end i₀ to i = Filling (butterfly s (entry from)) to₀ (p + s) end to i
 
 abbrev μ-loop : tie.MeasureT-loop
 μ-loop s p from to₀ end i₀ to i = end - i
@@ -33,7 +31,7 @@ add-i : tie.Need-add-i Inv-loop μ-loop
 add-i c = omega (arith, c .pre .inside)
 
 loop-holds : tie.Need-loop-holds Inv-loop μ-loop
-loop-holds c = (le-refl _, omega arith, written-none _ _ _)
+loop-holds c = filling-none _ _ _ _ (omega arith)
 
 -- the function's entry, seen from inside the loop
 abbrev start : tie.In-loop Inv-loop μ-loop → tie.Start Inv-loop μ-loop
@@ -41,10 +39,10 @@ start c = c .before .before
 
 -- in a turn the place lies in what is written
 place : (c : tie.In-loop Inv-loop μ-loop) → c .before .loop .i < length (c .before .loop .to)
-place c = omega (arith, c .loop-test .taken, start c .pre .fits, c .before .loop .inv .2 .sized)
+place c = omega (arith, c .loop-test .taken, start c .pre .fits, c .before .loop .inv .written .sized)
 
 sub-less : tie.Need-sub-less Inv-loop μ-loop
-sub-less c = omega (arith, c .before .loop .inv .0)
+sub-less c = omega (arith, c .before .loop .inv .from)
 
 less-requires : tie.Need-less-requires Inv-loop μ-loop
 less-requires c κs =
@@ -77,21 +75,16 @@ loop-less c = omega (arith, c .before .loop-test .taken)
 loop-again : tie.Need-loop-again Inv-loop μ-loop
 loop-again c =
     let in-loop = c .before in
-    let at = in-loop .before .loop in (
-      omega (arith, at .inv .0),
-      omega (arith, in-loop .loop-test .taken),
-      written-turn _ _ _ _ (at .i) _ (at .inv .2) (omega (arith, place in-loop, at .inv .2 .sized))
-          (bits-back (c .less .result) (c .less .ok) ∙ c .less .ensures
-          ∙ sym (butterfly-second _ _ (start in-loop .pre .begins) _ (at .i) (at .inv .0) (in-loop .loop-test .taken))),
-    )
+    let at = in-loop .before .loop in
+    filling-turn (at .inv) (in-loop .loop-test .taken) (place in-loop)
+    (bits-back (c .less .result) (c .less .ok) ∙ c .less .ensures
+    ∙ sym (butterfly-second _ _ (start in-loop .pre .begins) _ (at .i) (at .inv .from) (in-loop .loop-test .taken)))
 
 same-length : tie.Need-same-length Inv-loop μ-loop
-same-length c = c .before .loop .inv .2 .sized
+same-length c = c .before .loop .inv .written .sized
 
 returns : tie.Need-returns Inv-loop μ-loop
-returns c =
-    let at = c .before .loop in
-    written-to (omega (arith, at .inv .1, c .loop-test .left)) (at .inv .2)
+returns c = filling-end (c .before .loop .inv) (c .loop-test .left)
 
 pub differences-spec : {M : Type 1} → statement M
 differences-spec =

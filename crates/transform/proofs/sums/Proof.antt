@@ -1,23 +1,22 @@
 -- `transform::sums` meets its contract: place after place of the first half of a block it writes what the stage writes.
--- Invariant: what was written up to p is now written up to i. Measure: the places left of the half.
+-- Invariant: a loop from p to the middle, which writes, stands at i. Measure: the places left of the half.
 -- Assumes nothing.
-use Prim.Native.Nat.{_+_, _-_, _≤_, _<_, _^_}
-use native.Mathlib.Nat.{le-refl}
+use Prim.Native.Nat.{_+_, _-_, _<_, _^_}
 use native.Mathlib.Omega.{arith}
 use mathlib.Core.Path.{sym, _∙_}
 use lib.ListN.{length}
 use denote.Ref.{now}
 use Rattle.range.specs.Signed.{entry}
 use Rattle.range.proofs.SumsSigned.{mag-add}
-use Rattle.transform.specs.Steps.{butterfly, Written}
+use Rattle.transform.specs.Steps.{butterfly}
 use Rattle.transform.proofs.Bits.{bits-back}
 use Rattle.transform.proofs.Halves.{butterfly-first}
-use Rattle.transform.proofs.Writing.{written-none, written-turn, written-to}
+use Rattle.transform.proofs.Writing.{Filling, filling-none, filling-turn, filling-end}
 use Rattle.transform.proofs.sums.Statement.{statement}
 use Rattle.transform.proofs.sums.Tie as tie
 
 abbrev Inv-loop : tie.InvT-loop
-Inv-loop s p from to₀ end i₀ to i = (p ≤ i) × (i ≤ end) × Written (butterfly s (entry from)) to₀ p to i
+Inv-loop s p from to₀ end i₀ to i = Filling (butterfly s (entry from)) to₀ p end to i
 
 abbrev μ-loop : tie.MeasureT-loop
 μ-loop s p from to₀ end i₀ to i = end - i
@@ -26,7 +25,7 @@ add-end : tie.Need-add-end Inv-loop μ-loop
 add-end c = omega (arith, c .pre .inside)
 
 loop-holds : tie.Need-loop-holds Inv-loop μ-loop
-loop-holds c = (le-refl _, omega arith, written-none _ _ _)
+loop-holds c = filling-none _ _ _ _ (omega arith)
 
 -- the function's entry, seen from inside the loop
 abbrev start : tie.In-loop Inv-loop μ-loop → tie.Start Inv-loop μ-loop
@@ -38,7 +37,7 @@ partner : (c : tie.In-loop Inv-loop μ-loop) → let args = start c .args in
 partner c = omega (arith, c .loop-test .taken)
 
 place : (c : tie.In-loop Inv-loop μ-loop) → c .before .loop .i < length (c .before .loop .to)
-place c = omega (arith, c .loop-test .taken, start c .pre .fits, c .before .loop .inv .2 .sized)
+place c = omega (arith, c .loop-test .taken, start c .pre .fits, c .before .loop .inv .written .sized)
 
 add-sum : tie.Need-add-sum Inv-loop μ-loop
 add-sum c = omega (arith, partner c, start c .pre .inside)
@@ -73,21 +72,16 @@ loop-less c = omega (arith, c .before .loop-test .taken)
 loop-again : tie.Need-loop-again Inv-loop μ-loop
 loop-again c =
     let in-loop = c .before in
-    let at = in-loop .before .loop in (
-      omega (arith, at .inv .0),
-      omega (arith, in-loop .loop-test .taken),
-      written-turn _ _ _ _ (at .i) _ (at .inv .2) (omega (arith, place in-loop, at .inv .2 .sized))
-          (bits-back (c .sum .result) (c .sum .ok) ∙ c .sum .ensures
-          ∙ sym (butterfly-first _ _ (start in-loop .pre .begins) _ (at .i) (at .inv .0) (in-loop .loop-test .taken))),
-    )
+    let at = in-loop .before .loop in
+    filling-turn (at .inv) (in-loop .loop-test .taken) (place in-loop)
+    (bits-back (c .sum .result) (c .sum .ok) ∙ c .sum .ensures
+    ∙ sym (butterfly-first _ _ (start in-loop .pre .begins) _ (at .i) (at .inv .from) (in-loop .loop-test .taken)))
 
 same-length : tie.Need-same-length Inv-loop μ-loop
-same-length c = c .before .loop .inv .2 .sized
+same-length c = c .before .loop .inv .written .sized
 
 returns : tie.Need-returns Inv-loop μ-loop
-returns c =
-    let at = c .before .loop in
-    written-to (omega (arith, at .inv .1, c .loop-test .left)) (at .inv .2)
+returns c = filling-end (c .before .loop .inv) (c .loop-test .left)
 
 pub sums-spec : {M : Type 1} → statement M
 sums-spec =
