@@ -1,6 +1,6 @@
--- A loop that writes a list place after place, seen from its own start: `Written` (specs/Steps.antt), and with the loop's
--- ends `Filling`. In order: before the first turn; a turn; one loop after another; the end of the last; the same of a
--- loop from p to e, whose end is e.  Not here: lists filled from the front (range, Filled).  Assumes nothing.
+-- A loop that writes a list place after place, seen from its own start: `Written` (specs/Steps.antt), and with the
+-- loop's ends `Filling`. In order: before the first turn; a turn; one loop after another; the end of the last; the same
+-- of a loop from p to e, whose end is e.  Not here: lists filled from the front (range, Filled).  Assumes nothing.
 use Prim.Native.Nat.{ℕ, _+_, _≤_, _<_}
 use native.Mathlib.Nat.{le-refl}
 use native.Mathlib.Omega.{arith}

@@ -1,5 +1,5 @@
 -- `transform::differences` meets its contract: place after place of the second half of a block it writes what the stage
--- writes. Invariant: a loop from the middle to the end, which writes, stands at i. Measure: the places left of the half.
+-- writes. Invariant: a loop from the middle to the end, which writes, stands at i. Measure: the places left.
 -- Assumes nothing.
 use Prim.Native.Nat.{_+_, _-_, _<_, _^_}
 use native.Mathlib.Omega.{arith}

@@ -1,5 +1,5 @@
 -- `transform::sums` meets its contract: place after place of the first half of a block it writes what the stage writes.
--- Invariant: a loop from p to the middle, which writes, stands at i. Measure: the places left of the half.
+-- Invariant: a loop from p to the middle, which writes, stands at i. Measure: the places left.
 -- Assumes nothing.
 use Prim.Native.Nat.{_+_, _-_, _<_, _^_}
 use native.Mathlib.Omega.{arith}
