@@ -7,6 +7,7 @@
 --     behind-back       the lender's view: whoever lent a slice of k entries under γ for κ, and has `Behind R γ n ys`,
 --                       has its memory back, Tailed, once κ is over. It is to `Behind` what the kit's `slice-back` is
 --                       to `finally`
+--     codes-tail, told-one    what two records of one name tell, where the n elements in front are known of each
 --     behind-one        two records of one name, seen of one resource, tell the same tail
 --     behind-unique     the same of two records side by side: no two tails can be promised of one area
 --     finally-unique    no two last contents can be promised of one area. The kit's `finally-one`, side by side
@@ -135,33 +136,47 @@ module _ {M : Type 1} (𝓤 : URA M) (H : Heap 𝓤) (A : Atoms 𝓤) (W : Given
         rewrite ! 2 (λ (zs : Holeys R). ‵ (Arr (Holey (mem R)) k .lies zs b o)) (sym e) refl $ keep ! (2 ∷ []) $
         at-once ! $ by ! (tail-values hs ys n k b o el)))))
 
+    module _ (γ : GName) (n : ℕ) where
+      -- what the name records of n elements hs and then what ys holds behind its first n, and what a record tells by it
+      abbrev codes : List (R .Denot) → Holeys R → Gv
+      codes ys hs = codedHoleys R .code (hs ++ heres R (drop-list n ys))
+
+      abbrev Count : Holeys R → SProp 𝓤
+      Count hs = fact 𝓤 (length hs ≡ n)
+
+      abbrev Last : List (R .Denot) → Holeys R → SProp 𝓤
+      Last ys hs = A .res γ (codes ys hs)
+
+      abbrev Told : List (R .Denot) → Holeys R → SProp 𝓤
+      Told ys hs = Count hs ∗ Last ys hs
+
+      -- equal codes have equal tails
+      codes-tail : (ys zs : List (R .Denot)) (hs ks : Holeys R) → length hs ≡ n → length ks ≡ n
+          → codes ys hs ≡ codes zs ks → drop-list n ys ≡ drop-list n zs
+      codes-tail ys zs hs ks eh ek e =
+          heres-inj R (drop-list n ys) (drop-list n zs)
+          (seam hs ks (heres R (drop-list n ys)) (heres R (drop-list n zs)) (eh ∙ sym ek)
+          (codedHoleys R .inj (hs ++ heres R (drop-list n ys)) (ks ++ heres R (drop-list n zs)) e))
+
+      -- two records whose first n elements are known tell the same tail
+      told-one : (ys zs : List (R .Denot)) (hs ks : Holeys R)
+          → ent 𝓤 (conj 𝓤 (Told ys hs) (Told zs ks)) (fact 𝓤 (drop-list n ys ≡ drop-list n zs))
+      told-one ys zs hs ks =
+          fact-use 𝓤 (length hs ≡ n)
+          (via 𝓤 (Told ys hs) (conjL 𝓤 (Told ys hs) (Told zs ks)) (fst∗ 𝓤 (Count hs) (Last ys hs))) (λ eh.
+          fact-use 𝓤 (length ks ≡ n)
+          (via 𝓤 (Told zs ks) (conjR 𝓤 (Told ys hs) (Told zs ks)) (fst∗ 𝓤 (Count ks) (Last zs ks))) (λ ek.
+          via 𝓤 (conj 𝓤 (Last ys hs) (Last zs ks))
+          (conj-mono 𝓤 (snd∗ 𝓤 (Count hs) (Last ys hs)) (snd∗ 𝓤 (Count ks) (Last zs ks)))
+          (via 𝓤 (fact 𝓤 (codes ys hs ≡ codes zs ks)) (W .names .res-one γ (codes ys hs) (codes zs ks))
+          (fact-mono 𝓤 (codes ys hs ≡ codes zs ks) (drop-list n ys ≡ drop-list n zs)
+          (codes-tail ys zs hs ks eh ek)))))
+
     pub behind-one : (γ : GName) (n : ℕ) (ys zs : List (R .Denot))
         → ent 𝓤 (conj 𝓤 ⟦ Behind R γ n ys ⟧ ⟦ Behind R γ n zs ⟧) (fact 𝓤 (drop-list n ys ≡ drop-list n zs))
     behind-one γ n ys zs =
-        ex-conj 𝓤 (Told ys) ⟦ Behind R γ n zs ⟧ (λ hs. conj-ex 𝓤 (Told ys hs) (Told zs) (λ ks.
-        fact-use 𝓤 (length hs ≡ n)
-        (via 𝓤 (Told ys hs) (conjL 𝓤 (Told ys hs) (Told zs ks)) (fst∗ 𝓤 (Count hs) (Last ys hs))) (λ eh.
-        fact-use 𝓤 (length ks ≡ n)
-        (via 𝓤 (Told zs ks) (conjR 𝓤 (Told ys hs) (Told zs ks)) (fst∗ 𝓤 (Count ks) (Last zs ks))) (λ ek.
-        via 𝓤 (conj 𝓤 (Last ys hs) (Last zs ks))
-        (conj-mono 𝓤 (snd∗ 𝓤 (Count hs) (Last ys hs)) (snd∗ 𝓤 (Count ks) (Last zs ks)))
-        (via 𝓤 (fact 𝓤 (codes ys hs ≡ codes zs ks)) (W .names .res-one γ (codes ys hs) (codes zs ks))
-        (fact-mono 𝓤 (codes ys hs ≡ codes zs ks) (drop-list n ys ≡ drop-list n zs) (λ e.
-        heres-inj R (drop-list n ys) (drop-list n zs)
-        (seam hs ks (heres R (drop-list n ys)) (heres R (drop-list n zs)) (eh ∙ sym ek)
-        (codedHoleys R .inj (hs ++ heres R (drop-list n ys)) (ks ++ heres R (drop-list n zs)) e)))))))))
-      where
-        codes : List (R .Denot) → Holeys R → Gv
-        codes xs hs = codedHoleys R .code (hs ++ heres R (drop-list n xs))
-
-        Count : Holeys R → SProp 𝓤
-        Count hs = fact 𝓤 (length hs ≡ n)
-
-        Last : List (R .Denot) → Holeys R → SProp 𝓤
-        Last xs hs = A .res γ (codes xs hs)
-
-        Told : List (R .Denot) → Holeys R → SProp 𝓤
-        Told xs hs = Count hs ∗ Last xs hs
+        ex-conj 𝓤 (Told γ n ys) ⟦ Behind R γ n zs ⟧ (λ hs.
+        conj-ex 𝓤 (Told γ n ys hs) (Told γ n zs) (λ ks. told-one γ n ys zs hs ks))
 
     pub behind-unique : (γ : GName) (n : ℕ) (ys zs : List (R .Denot))
         → ent 𝓤 (⟦ Behind R γ n ys ⟧ ∗ ⟦ Behind R γ n zs ⟧) (fact 𝓤 (drop-list n ys ≡ drop-list n zs))

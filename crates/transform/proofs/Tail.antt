@@ -10,8 +10,14 @@
 -- On the way back, when the lifetime is over, each front element's name is set to what lies at its place by then. This
 -- makes the front's memory the placeholders that the old name was resolved to.
 --     way-back        from what the two borrows hold, to what the slice's borrow held
---     takes-front     the cut, for any element type in memory
+--     opens           the slice's borrow is opened, and its elements are cut in two (Opened)
+--     names           the front and each of its elements get new names, and the slice's name is resolved (Named)
+--     closes          the open borrow is closed as the two that it is cut into, and the front's is handed out (Taken)
+--     takes-front     the cut, for any element type in memory: those three in turn
 --     at-list         the slice reference at a place, with a name and contents
+--     taken-apart     what a slice reference owns gives the cut what it asks for
+--     front-in        the front that the cut gives is a slice reference
+--     behind-in       the old name, as the cut leaves it, is the record `Behind`
 --     front-out       the cut, for a slice reference of any Rattle type
 -- What the record is worth to whoever lent the slice: RemainsLaws.antt. The transform's use of the cut: Handing.antt.
 -- Assumes `Given`.
@@ -25,7 +31,7 @@ use mir.Syntax.{Lifetime}
 use mir.Val.{Val}
 use base.Logic.{SProp, ent, sep, ex, guard, emp, id⊢, upd, updI}
 use base.Stored.{Gv, codedList}
-use base.Fml.{Lft, GName, Share, Fml, ftrue, fsep, fwand, fupd, feq, flft, fdead, fobs, fauth, fres, fbor, fseps}
+use base.Fml.{Lft, GName, Share, Fml, ftrue, fsep, fwand, fupd, feq, flft, fdead, fobs, fauth, fres, fbor, fobor, fseps}
 use prog.Wp.{Heap}
 use ghost.Atoms.{Atoms, sem}
 use types.Kit.{Given, ‵, raw, _⊛_, some, given, later, settle, _$_, _∵_, !, qed, move, keep, use0, use1, use2, use3}
@@ -38,7 +44,7 @@ use types.Mut.{open-ref}
 use denote.RattleType.{RattleType}
 use denote.Memory.{mem}
 use denote.Ref.{RefT}
-use denote.Slice.{sliceVal, slice-vals, MutSlice, Holeys, heres, codedHoleys}
+use denote.Slice.{sliceVal, slice-vals, MutSlice, Room, Holeys, heres, codedHoleys}
 use borrow.Table.Elements.{at, cut-app, join-app, length-app, length-take-le, map-app, take-le}
 use Rattle.transform.specs.Remains.{Behind}
 use Rattle.transform.proofs.Holes.{Owned, holes, length-holes, halves, make, refill}
@@ -100,16 +106,37 @@ module _ {M : Type 1} (𝓤 : URA M) (H : Heap 𝓤) (A : Atoms 𝓤) (W : Given
         fpack ! Hs (λ ws. fsep (Arr (Holey T) n .lies ws b o) (fauth γ (codes ws))) (holes T ps ++ back) $
         keep ! (0 ∷ []) $ done !))
 
+    -- where the elements behind ys lie
+    abbrev end : List (T .rep) → ℕ
+    end ys = at o (T .size) (length ys)
+
+    -- the slice's borrow held open, its elements cut in two behind ys, and both halves of its name
+    abbrev Opened : Share → GName → List (T .rep) → Hs → Fml
+    Opened q γ ys back =
+        fsep (feq ℕ (length ys + length back) n)
+        (fsep (fsep (cells (Holey T) (map (here T) ys) b o) (cells (Holey T) back b (end ys)))
+        (fsep (fobor κ q (Whole γ))
+        (fsep (fobs γ (codes (map (here T) ys ++ back))) (fauth γ (codes (map (here T) ys ++ back))))))
+
+    -- the slice's borrow held open, what its two parts are to hold, and the slice's name resolved
+    abbrev Named : Share → GName → List (T .rep) → Hs → GName → Owned T → Fml
+    Named q γ ys back γ′ ps =
+        fsep (feq ℕ (length ys + length back) n) (fsep (feq ℕ (length ps) (length ys))
+        (fsep (fobor κ q (Whole γ))
+        (fsep (fseps (Both γ γ′ ps back (length ys) (end ys)))
+        (fsep (fobs γ′ (codes (map (here T) ys))) (fres γ (codes (holes T ps ++ back)))))))
+
+    -- the front's borrow under its new name, the token, and the slice's name resolved
     abbrev Taken : Share → GName → List (T .rep) → Hs → GName → Owned T → SProp 𝓤
     Taken q γ ys back γ′ ps =
         guard 𝓤 (length ps ≡ length ys) (A .obs γ′ (codes (map (here T) ys)) ∗ A .bor κ (Front γ′ (length ys))
         ∗ A .lft κ q ∗ A .res γ (codes (holes T ps ++ back)))
 
-    takes-front : (q : Share) (γ : GName) (ys : List (T .rep)) (back : Hs)
+    -- the slice's borrow is opened, and its elements are cut in two
+    opens : (q : Share) (γ : GName) (ys : List (T .rep)) (back : Hs)
         → ent 𝓤 (A .obs γ (codes (map (here T) ys ++ back)) ∗ A .bor κ (Whole γ) ∗ A .lft κ q)
-        (H .⇛ (ex 𝓤 (λ (γ′ : GName). ex 𝓤 (Taken q γ ys back γ′))))
-    unfolding fseps
-    takes-front q γ ys back =
+        (H .⇛ ⟦ Opened q γ ys back ⟧)
+    opens q γ ys back =
         qed W (‵ (fobs γ (codes (map (here T) ys ++ back))) ∷ ‵ (fbor κ (Whole γ)) ∷ ‵ (flft κ q) ∷ []) ∵ updating ! $
         open-ref ! tt (Arr (Holey T) n) {b = b} {o = o} $ fsplit ! $ feqL ! (λ el.
         -- [the elements; the open borrow; obs and auth of the slice's name]
@@ -117,38 +144,117 @@ module _ {M : Type 1} (𝓤 : URA M) (H : Heap 𝓤) (A : Atoms 𝓤) (W : Given
         ⊛ ‵ (cells (Holey T) back b (at o (T .size) (length (map (here T) ys)))))
         (cut-app 𝓤 H A (Holey T) (map (here T) ys) back b o) $ split ! $
         rewrite ! 1 (λ (j : ℕ). ‵ (cells (Holey T) back b (at o (T .size) j))) (length-map ys (here T)) refl $
+        fjoin ! $ move ! (1 ∷ 2 ∷ 3 ∷ []) $ fjoin3 ! $ move ! (1 ∷ []) $
+        feqI ! ℕ (length ys + length back) n (all-of el) $ fjoin3 ! $ at-once ! $ done !)
+      where
+        all-of : length (map (here T) ys ++ back) ≡ n → length ys + length back ≡ n
+        all-of e =
+            ap (λ (j : ℕ). j + length back) (sym (length-map ys (here T))) ∙ sym (length-app (map (here T) ys) back) ∙ e
+
+    -- the front and each of its elements get new names, and the slice's name is resolved to their placeholders
+    names : (q : Share) (γ : GName) (ys : List (T .rep)) (back : Hs) → ent 𝓤 ⟦ Opened q γ ys back ⟧
+        (H .⇛ (ex 𝓤 (λ (γ′ : GName). ex 𝓤 (λ (ps : Owned T). ⟦ Named q γ ys back γ′ ps ⟧))))
+    unfolding fseps
+    names q γ ys back =
+        qed W (‵ (Opened q γ ys back) ∷ []) ∵ updating ! $ fsplit3 ! $ move ! (2 ∷ 1 ∷ []) $ fsplit3 ! $
+        move ! (3 ∷ []) $ fsplit ! $
         name-new ! tt (codes (map (here T) ys)) (λ γ′.
         use0 W (later (some (λ (ps : Owned T). given (length ps ≡ length ys) (‵ (halves T ps))))) (make 𝓤 H A W T ys) $
         await ! tt $ pick ! (λ ps. learn ! (λ e.
         -- [the halves; obs and auth of the new name; the first elements; those behind; the open borrow; obs and auth of
-        -- the slice's name]
+        -- the slice's name; how many elements there are]
         move ! (6 ∷ 7 ∷ []) $ name-set ! tt (codes (holes T ps ++ back)) $ name-done ! tt $
-        -- [res; auth; the halves; obs and auth of the new name; the first elements; those behind; the open borrow]
+        -- [res; auth; the halves; obs and auth of the new name; the first elements; those behind; the open borrow; ..]
         feqI ! ℕ (length (map (here T) ys)) (length ys) (length-map ys (here T)) $ move ! (0 ∷ 6 ∷ []) $ fjoin ! $
         move ! (0 ∷ 5 ∷ []) $ fjoin ! $
-        fpack ! Hs (λ zs. fsep (Arr (Holey T) (length ys) .lies zs b o) (fauth γ′ (codes zs)))
-        (map (here T) ys) $
-        -- [the first elements, under their name; res; auth; the halves; obs of the new name; the elements behind; the
-        -- open borrow]
+        fpack ! Hs (λ zs. fsep (Arr (Holey T) (length ys) .lies zs b o) (fauth γ′ (codes zs))) (map (here T) ys) $
+        -- [the front, under its name; res; auth; the halves; obs of the new name; those behind; the open borrow; ..]
         move ! (5 ∷ 3 ∷ 2 ∷ []) $ fjoin3 ! $ use0 W (‵ ftrue) (id⊢ 𝓤 (emp 𝓤)) $ move ! (2 ∷ 1 ∷ 0 ∷ []) $ fjoin3 ! $
-        use0 W (‵ (WayBack γ γ′ ps back (length ys) (at o (T .size) (length ys))))
-        (way-back γ γ′ ps back (length ys) (at o (T .size) (length ys)) refl e (all-of ys back el)) $
-        -- [the way back; the two contents; res; obs of the new name; the open borrow]
-        move ! (4 ∷ 1 ∷ 0 ∷ []) $ obor-alter ! tt (Both γ γ′ ps back (length ys) (at o (T .size) (length ys))) $
-        use1 W (‵ (fbor κ (Front γ′ (length ys))) ⊛ ‵ (fbor κ (Kept γ ps back (at o (T .size) (length ys)))) ⊛ ‵ ftrue)
-        (id⊢ 𝓤 _) $ split3 ! $
-        -- [the borrow of the front; that of the rest; true; the token; res; obs of the new name]
-        at-once ! $ show ! (λ (g : GName). ex 𝓤 (Taken q γ ys back g)) γ′ $ show ! (Taken q γ ys back γ′) ps $
-        check ! e $ keep ! (5 ∷ 0 ∷ 3 ∷ 4 ∷ []) $ done !))))
-      where
-        all-of : (zs : List (T .rep)) (hs : Hs) → length (map (here T) zs ++ hs) ≡ n → length zs + length hs ≡ n
-        all-of zs hs e =
-            ap (λ (j : ℕ). j + length hs) (sym (length-map zs (here T))) ∙ sym (length-app (map (here T) zs) hs) ∙ e
+        -- [the two contents; res; obs of the new name; the open borrow; how many elements there are]
+        move ! (2 ∷ 1 ∷ []) $ fjoin ! $ move ! (2 ∷ 1 ∷ 0 ∷ []) $ fjoin3 ! $ feqI ! ℕ (length ps) (length ys) e $
+        move ! (2 ∷ 0 ∷ 1 ∷ []) $ fjoin3 ! $ at-once ! $
+        show ! (λ (g : GName). ex 𝓤 (λ (rs : Owned T). ⟦ Named q γ ys back g rs ⟧)) γ′ $
+        show ! (λ (rs : Owned T). ⟦ Named q γ ys back γ′ rs ⟧) ps $ done !)))
+
+    -- the open borrow is closed as the two that it is cut into, and the front's is handed out
+    closes : (q : Share) (γ : GName) (ys : List (T .rep)) (back : Hs) (γ′ : GName) (ps : Owned T)
+        → ent 𝓤 ⟦ Named q γ ys back γ′ ps ⟧ (H .⇛ (Taken q γ ys back γ′ ps))
+    unfolding fseps
+    closes q γ ys back γ′ ps =
+        qed W (‵ (Named q γ ys back γ′ ps) ∷ []) ∵ updating ! $ fsplit ! $ feqL ! (λ en. fsplit ! $ feqL ! (λ e.
+        fsplit3 ! $
+        use0 W (‵ (WayBack γ γ′ ps back (length ys) (end ys)))
+        (way-back γ γ′ ps back (length ys) (end ys) refl e en) $
+        -- [the way back; the open borrow; the two contents; obs of the new name, and res]
+        move ! (1 ∷ 2 ∷ 0 ∷ []) $ obor-alter ! tt (Both γ γ′ ps back (length ys) (end ys)) $
+        use1 W (‵ (fbor κ (Front γ′ (length ys))) ⊛ ‵ (fbor κ (Kept γ ps back (end ys))) ⊛ ‵ ftrue) (id⊢ 𝓤 _) $
+        split3 ! $
+        -- [the borrow of the front; that of the rest; true; the token; obs of the new name, and res]
+        move ! (4 ∷ []) $ fsplit ! $ at-once ! $ check ! e $ keep ! (0 ∷ 2 ∷ 5 ∷ 1 ∷ []) $ done !))
+
+    -- those three in turn
+    takes-front : (q : Share) (γ : GName) (ys : List (T .rep)) (back : Hs)
+        → ent 𝓤 (A .obs γ (codes (map (here T) ys ++ back)) ∗ A .bor κ (Whole γ) ∗ A .lft κ q)
+        (H .⇛ (ex 𝓤 (λ (γ′ : GName). ex 𝓤 (Taken q γ ys back γ′))))
+    takes-front q γ ys back =
+        qed W (‵ (fobs γ (codes (map (here T) ys ++ back))) ∷ ‵ (fbor κ (Whole γ)) ∷ ‵ (flft κ q) ∷ []) ∵ updating ! $
+        use3 W (later (‵ (Opened q γ ys back))) (opens q γ ys back) $ await ! tt $
+        use1 W (later (some (λ (γ′ : GName). some (λ (ps : Owned T). ‵ (Named q γ ys back γ′ ps)))))
+        (names q γ ys back) $ await ! tt $ pick ! (λ γ′. pick ! (λ ps.
+        use1 W (later (raw (Taken q γ ys back γ′ ps))) (closes q γ ys back γ′ ps) $ await ! tt $ at-once ! $
+        show ! (λ (g : GName). ex 𝓤 (Taken q γ ys back g)) γ′ $ show ! (Taken q γ ys back γ′) ps $ done !))
 
 module _ {M : Type 1} (𝓤 : URA M) (H : Heap 𝓤) (A : Atoms 𝓤) (W : Given 𝓤 H A)
     (R : RattleType) (κ : Lft) (q : Share) (b o : ℕ) (γ : GName) where
   abbrev pub at-list : GName → List (R .Denot) → RefT (List (R .Denot))
   at-list δ ys = record { ptr = (b, o); name = δ; now = ys }
+
+  -- what a slice reference owns for the lifetime κ, at the machine value of k entries
+  abbrev Slice : Lifetime → GName → List (R .Denot) → ℕ → Fml
+  Slice ℓ δ ys k = MutSlice ℓ κ R .own (at-list δ ys) (sliceVal (b, o) k ∷ [])
+
+  -- `obs` of the name δ at the elements hs, which may be lent on, and the borrow of k elements under it
+  abbrev Lists : GName → Holeys R → ℕ → Fml
+  Lists δ hs k = fsep (fobs δ (codedHoleys R .code hs)) (fbor κ (Body (Arr (Holey (mem R)) k) b o δ))
+
+  -- what the cut gives: the first n entries as a slice, the token, and the record of what stands behind them
+  abbrev Out : Lifetime → List (R .Denot) → ℕ → GName → SProp 𝓤
+  Out ℓ ys n δ = sep 𝓤 (sem 𝓤 H A (Slice ℓ δ (take n ys) n)) (sep 𝓤 (A .lft κ q) (sem 𝓤 H A (Behind R γ n ys)))
+
+  -- what a slice reference owns tells that its entries have room, and gives `Lists` at the first n and then the rest
+  taken-apart : (ℓ : Lifetime) (ys : List (R .Denot)) (n : ℕ) → ent 𝓤 (sem 𝓤 H A (Slice ℓ γ ys (length ys)))
+      (guard 𝓤 (Room R (length ys))
+      (sem 𝓤 H A (Lists γ (heres R (take n ys) ++ heres R (drop-list n ys)) (length ys))))
+  taken-apart ℓ ys n =
+      qed W (‵ (Slice ℓ γ ys (length ys)) ∷ []) ∵ fsplit ! $ fsplit ! $ drop ! $ fsplit ! $ fltL ! (λ r₁. fltL ! (λ r₂.
+      fsplit ! $ rewrite ! 0 (λ (hs : Holeys R). ‵ (fobs γ (codedHoleys R .code hs))) cut-heres refl $ fjoin ! $
+      check ! (r₁, r₂) $ done !))
+    where
+      cut-heres : heres R ys ≡ heres R (take n ys) ++ heres R (drop-list n ys)
+      cut-heres =
+          ap (λ (l : List (R .Denot)). heres R l) (sym (take-append-drop n ys))
+          ∙ map-app (here (mem R)) (take n ys) (drop-list n ys)
+
+  -- the first n entries, under a new name, are a slice reference of n entries
+  front-in : (ℓ : Lifetime) (ys : List (R .Denot)) (n : ℕ) (γ′ : GName) → n ≤ length ys → Room R (length ys) → ent 𝓤
+      (sem 𝓤 H A (Lists γ′ (heres R (take n ys)) (length (take n ys)))) (sem 𝓤 H A (Slice ℓ γ′ (take n ys) n))
+  front-in ℓ ys n γ′ l r =
+      qed W (‵ (Lists γ′ (heres R (take n ys)) (length (take n ys))) ∷ []) ∵
+      fltI ! (length (take n ys) * mem R .size) (2 ^ 63)
+      (lt-of-le-of-lt (mul-le-mul-right (mem R .size) (take-le n ys)) (r .1)) $
+      fltI ! (length (take n ys)) (2 ^ 64) (lt-of-le-of-lt (take-le n ys) (r .0)) $ fjoin ! $
+      feqI ! (List Val) (sliceVal (b, o) n ∷ []) (slice-vals (at-list γ′ (take n ys)))
+      (ap (λ (j : ℕ). sliceVal (b, o) j ∷ []) (sym (length-take-le n ys l))) $ fjoin ! $ fjoin ! $ done !
+
+  -- the old name, resolved to n placeholders and what ys holds behind its first n, is the record
+  behind-in : (ys : List (R .Denot)) (n : ℕ) (ps : Owned (mem R)) → length ps ≡ n → ent 𝓤
+      (A .res γ (codedHoleys R .code (holes (mem R) ps ++ heres R (drop-list n ys)))) (sem 𝓤 H A (Behind R γ n ys))
+  behind-in ys n ps e =
+      qed W (‵ (fres γ (codedHoleys R .code (holes (mem R) ps ++ heres R (drop-list n ys)))) ∷ []) ∵
+      feqI ! ℕ (length (holes (mem R) ps)) n (length-holes (mem R) ps ∙ e) $ fjoin ! $
+      fpack ! (Holeys R)
+      (λ hs. fsep (feq ℕ (length hs) n) (fres γ (codedHoleys R .code (hs ++ heres R (drop-list n ys)))))
+      (holes (mem R) ps) $ done !
 
   pub front-out : (ℓ ℓ′ : Lifetime) (ys : List (R .Denot)) (n : ℕ) → n ≤ length ys →
       ent 𝓤 (sep 𝓤 (sem 𝓤 H A (MutSlice ℓ κ R .own (at-list γ ys) (sliceVal (b, o) (length ys) ∷ []))) (A .lft κ q))
@@ -156,36 +262,20 @@ module _ {M : Type 1} (𝓤 : URA M) (H : Heap 𝓤) (A : Atoms 𝓤) (W : Given
       sep 𝓤 (sem 𝓤 H A (MutSlice ℓ′ κ R .own (at-list γ′ (take n ys)) (sliceVal (b, o) n ∷ [])))
       (sep 𝓤 (A .lft κ q) (sem 𝓤 H A (Behind R γ n ys))))))
   front-out ℓ ℓ′ ys n l =
-      qed W (‵ (MutSlice ℓ κ R .own (at-list γ ys) (sliceVal (b, o) (length ys) ∷ [])) ∷ ‵ (flft κ q) ∷ [])
-      {P = H .⇛ (ex 𝓤 (Out ℓ′ ys n))} (
-      updating ! $ fsplit3 ! $ fsplit ! $ drop ! $ fsplit ! $ fltL ! (λ r₁. fltL ! (λ r₂.
+      qed W (‵ (Slice ℓ γ ys (length ys)) ∷ ‵ (flft κ q) ∷ []) {P = H .⇛ (ex 𝓤 (Out ℓ′ ys n))} (updating ! $
+      use1 W (given (Room R (length ys)) (‵ (Lists γ (heres R (take n ys) ++ heres R back) (length ys))))
+      (taken-apart ℓ ys n) $ learn ! (λ r. fsplit ! $
       -- [obs; the borrow; the token]
-      rewrite ! 0 (λ (hs : Holeys R). ‵ (fobs γ (codedHoleys R .code hs))) (cut-heres ys n) refl $
       use3 W (later (some (λ (γ′ : GName). some (λ (ps : Owned (mem R)). given (length ps ≡ length (take n ys))
       (‵ (fobs γ′ (codedHoleys R .code (heres R (take n ys))))
       ⊛ ‵ (fbor κ (Body (Arr (Holey (mem R)) (length (take n ys))) b o γ′)) ⊛ ‵ (flft κ q)
-      ⊛ ‵ (fres γ (codedHoleys R .code (holes (mem R) ps ++ heres R (drop-list n ys)))))))))
-      (takes-front 𝓤 H A W (mem R) κ (length ys) b o q γ (take n ys) (heres R (drop-list n ys))) $ await ! tt $
-      pick ! (λ γ′. pick ! (λ ps. learn ! (λ e. split ! $ move ! (1 ∷ []) $ split ! $ move ! (1 ∷ []) $ split ! $
-      -- [the token; res; the borrow; obs]
-      fltI ! (length (take n ys) * mem R .size) (2 ^ 63)
-      (lt-of-le-of-lt (mul-le-mul-right (mem R .size) (take-le n ys)) r₂) $
-      fltI ! (length (take n ys)) (2 ^ 64) (lt-of-le-of-lt (take-le n ys) r₁) $ fjoin ! $
-      feqI ! (List Val) (sliceVal (b, o) n ∷ []) (slice-vals (at-list γ′ (take n ys)))
-      (ap (λ (j : ℕ). sliceVal (b, o) j ∷ []) (sym (length-take-le n ys l))) $ fjoin ! $
-      move ! (0 ∷ 4 ∷ 3 ∷ []) $ fjoin3 ! $ move ! (2 ∷ []) $
-      -- [res; what the new slice owns; the token]
-      feqI ! ℕ (length (holes (mem R) ps)) n (length-holes (mem R) ps ∙ e ∙ length-take-le n ys l) $ fjoin ! $
-      fpack ! (Holeys R)
-      (λ hs. fsep (feq ℕ (length hs) n) (fres γ (codedHoleys R .code (hs ++ heres R (drop-list n ys)))))
-      (holes (mem R) ps) $ move ! (1 ∷ 2 ∷ []) $ at-once ! $ show ! (Out ℓ′ ys n) γ′ $ done !))))))
+      ⊛ ‵ (fres γ (codedHoleys R .code (holes (mem R) ps ++ heres R back))))))))
+      (takes-front 𝓤 H A W (mem R) κ (length ys) b o q γ (take n ys) (heres R back)) $ await ! tt $
+      pick ! (λ γ′. pick ! (λ ps. learn ! (λ e. split3 ! $ fjoin ! $
+      use1 W (‵ (Slice ℓ′ γ′ (take n ys) n)) (front-in ℓ′ ys n γ′ l r) $ move ! (1 ∷ []) $ split ! $ move ! (1 ∷ []) $
+      use1 W (‵ (Behind R γ n ys)) (behind-in ys n ps (e ∙ length-take-le n ys l)) $
+      -- [what stays behind; the token; the new slice]
+      move ! (2 ∷ 1 ∷ 0 ∷ []) $ at-once ! $ show ! (Out ℓ′ ys n) γ′ $ done !)))))
     where
-      Out : Lifetime → List (R .Denot) → ℕ → GName → SProp 𝓤
-      Out m zs k γ′ =
-          sep 𝓤 (sem 𝓤 H A (MutSlice m κ R .own (at-list γ′ (take k zs)) (sliceVal (b, o) k ∷ [])))
-          (sep 𝓤 (A .lft κ q) (sem 𝓤 H A (Behind R γ k zs)))
-
-      cut-heres : (zs : List (R .Denot)) (k : ℕ) → heres R zs ≡ heres R (take k zs) ++ heres R (drop-list k zs)
-      cut-heres zs k =
-          ap (λ (l : List (R .Denot)). heres R l) (sym (take-append-drop k zs))
-          ∙ map-app (here (mem R)) (take k zs) (drop-list k zs)
+      back : List (R .Denot)
+      back = drop-list n ys
