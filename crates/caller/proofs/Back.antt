@@ -32,7 +32,7 @@ use denote.Slice.{Holeys, heres, codedHoleys, room, finally}
 use borrow.Rule.Reborrow.{againI, relent-back}
 use borrow.Rule.Slice.Lend.{TH}
 use Rattle.transform.specs.Remains.{Behind}
-use Rattle.transform.proofs.RemainsLaws.{tail-values}
+use Rattle.transform.proofs.Lender.{tail-values}
 use Rattle.transform.proofs.Again.{Own, clad, Kept-of, backs}
 
 abbrev pub Had : {M : Type 1} (𝓤 : URA M) (H : Heap 𝓤) (A : Atoms 𝓤) (R : RattleType) → Lft → Share →

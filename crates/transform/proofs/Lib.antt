@@ -10,7 +10,9 @@ pub mod Parts
 pub mod Unique
 pub mod Tied
 pub mod Holes
+pub mod Cut
 pub mod Tail
+pub mod Lender
 pub mod RemainsLaws
 pub mod Again
 pub mod Calling

@@ -7,7 +7,7 @@
 --           Remains m x y             the same, of a transform with that m of the areas x and y
 -- What the front n entries hold once the part itself is over is not said: a placeholder of the logic stands for one
 -- element under one name, and a clause cannot name the loan's lifetime (docs/PROMISES.md, Exceptions).
--- Laws: proofs/Tail.antt, Handing.antt, RemainsLaws.antt.  Assumes nothing: these are definitions.
+-- Laws: proofs/Tail.antt, Handing.antt, Lender.antt, RemainsLaws.antt.  Assumes nothing: these are definitions.
 use Prim.Native.Nat.{ℕ}
 use mathlib.Core.Bool.{Bool, true, false}
 use mathlib.Core.List.{List, _++_}
