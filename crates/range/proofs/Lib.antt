@@ -1,7 +1,10 @@
--- Laws of sums, counts, searches and lists below a number.
+-- Laws of sums, counts, searches and lists below a number, and of sums and sizes of whole numbers.
 pub mod Sums
 pub mod Tests
 pub mod FromOne
 pub mod Lists
 pub mod Filled
+pub mod Writing
 pub mod SumsSigned
+pub mod Shifts
+pub mod Sizes

@@ -1,8 +1,8 @@
--- Laws of sumBelow and countBelow. In order: one more summand at the end; equal summands; zeros, all or all but one;
+-- Laws of sumBelow and countBelow. In order: one more summand at the end; two parts; equal summands; zeros, all or all but one;
 -- a bound; the same of counts; one turn of a loop that adds up; what lies below the whole sum.
 -- Not here: tests and searches (Tests), lists (Lists).  Assumes nothing.
 use Prim.Native.Nat.{ℕ, zero, suc, _+_, _*_, _≤_, _<_, zero-le, suc-le-suc}
-use native.Mathlib.Nat.{zero-add, add-zero, le-refl, suc-mul, not-suc-le-zero, le-of-suc-le-suc}
+use native.Mathlib.Nat.{zero-add, add-zero, suc-add, le-refl, suc-mul, not-suc-le-zero, le-of-suc-le-suc}
 use native.Mathlib.Numerals.{add-one}
 use native.Mathlib.Omega.{arith}
 use mathlib.Core.Path.{_≡_, refl, _∙_}
@@ -14,6 +14,12 @@ pub sumBelow-suc : (n : ℕ) (f : ℕ → ℕ) → sumBelow (suc n) f ≡ sumBel
 unfolding sumBelow
 sumBelow-suc zero f = omega arith
 sumBelow-suc (suc n) f = omega (arith, sumBelow-suc n (λ i. f (suc i)))
+
+-- a sum in two parts
+pub sumBelow-add : (a b : ℕ) (f : ℕ → ℕ) → sumBelow (a + b) f ≡ sumBelow a f + sumBelow b (λ i. f (a + i))
+unfolding sumBelow
+sumBelow-add zero b f = simp zero-add
+sumBelow-add (suc a) b f = rw (suc-add, sumBelow-add a b (λ i. f (suc i))) (simp suc-add (omega arith))
 
 pub sumBelow-cong : (n : ℕ) (f g : ℕ → ℕ) → ((i : ℕ) → i < n → f i ≡ g i) → sumBelow n f ≡ sumBelow n g
 unfolding sumBelow

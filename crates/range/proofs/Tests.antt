@@ -1,9 +1,11 @@
 -- Laws of tests, and of allBelow and firstBelow. In order: below and at least; both sides of a conjunction, and of a
--- disjunction that fails; a test not passed; all, from each place, at each place, refuted; the first, found, not found,
+-- disjunction that fails; a test not passed; a claim about all below n, one more; all, from each place, at each place, refuted; the first, found, not found,
 -- and back.
 -- Not here: sums and counts (Sums), lists (Lists).  Assumes nothing.
-use Prim.Native.Nat.{ℕ, zero, suc, _<_, zero-le, suc-le-suc}
+use Prim.Native.Nat.{ℕ, zero, suc, _+_, _<_, zero-le, suc-le-suc}
 use native.Mathlib.Nat.{not-suc-le-zero, le-of-suc-le-suc}
+use native.Mathlib.Decide.{ℕ-discrete}
+use native.Mathlib.Omega.{arith}
 use mathlib.Core.Path.{_≡_, refl, sym, _∙_, ap, subst}
 use mathlib.Core.Bool.{Bool, true, false, not, _&&_, _||_, false≢true, Bool·not-not}
 use mathlib.Core.Option.{Option, none, some}
@@ -43,6 +45,13 @@ or-false false b e = (refl, e)
 pub false-of-not-true : (b : Bool) → (b ≡ true → ⊥) → b ≡ false
 false-of-not-true true h = absurd (h refl)
 false-of-not-true false h = refl
+
+-- a claim about all below n, and about n
+pub below-suc : (P : ℕ → Type 0) (n : ℕ) → ((k : ℕ) → k < n → P k) → P n → (k : ℕ) → k < suc n → P k
+below-suc P n all last k h = elim (ℕ-discrete k n) [ yes e ↦ subst P (sym e) last | no d ↦ all k (omega arith) ]
+
+pub below-next : (P : ℕ → Type 0) (n : ℕ) → ((k : ℕ) → k < n → P k) → P n → (k : ℕ) → k < n + 1 → P k
+below-next P n all last k h = below-suc P n all last k (omega arith)
 
 pub allBelow-of : (n : ℕ) (f : ℕ → Bool) → ((i : ℕ) → i < n → f i ≡ true) → allBelow n f ≡ true
 unfolding allBelow

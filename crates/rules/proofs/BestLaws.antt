@@ -1,11 +1,12 @@
--- Laws of Best. In order: only one outcome satisfies it; a tied best from tests; equal values give label 0, tied.
+-- Laws of Best. In order: only one outcome satisfies it; a tied best from tests; equal values give label 0, tied; a
+-- best under another measure.
 -- Assumes nothing.
 use Prim.Native.Nat.{ℕ, _<_, _≤_}
-use native.Mathlib.Nat.{not-suc-le-zero, le-antisymm, lt-of-not-le, le-of-suc-le-suc, le-step, suc-ne-zero}
+use native.Mathlib.Nat.{not-suc-le-zero, le-antisymm, lt-of-not-le, lt-trans, le-of-suc-le-suc, le-step, suc-ne-zero}
 use native.Mathlib.Decide.{decLt}
-use mathlib.Core.Path.{_≡_, refl, sym, subst}
+use mathlib.Core.Path.{_≡_, refl, sym, _∙_, subst}
 use mathlib.Core.Bool.{Bool, true, false, not}
-use mathlib.Core.Logic.{_≢_, _↔_}
+use mathlib.Core.Logic.{_≢_, _↔_, ∥∥₁-map}
 use lib.Dec.{T, T-not}
 use Rattle.range.specs.Below.{allBelow}
 use Rattle.range.proofs.Tests.{allBelow-at}
@@ -66,3 +67,20 @@ module _ {X : Type 0} (n : ℕ) (noBetter : X → X → Bool) (value : ℕ → X
     earliest = λ k h. absurd (not-suc-le-zero h);
     tie = (λ _. ∣ (1, two, suc-ne-zero 0, all 1) ∣₁, λ _. refl);
   }
+
+-- a best stays a best under another measure that keeps what is no better than it, and what is equal to it
+pub best-map : {X Y : Type 0} (n : ℕ) (noBetter : X → X → Bool) (value : ℕ → X) (otherNoBetter : Y → Y → Bool)
+    (otherValue : ℕ → Y) (l : ℕ) (v : X) (tied : Bool) → Best n noBetter value l v tied →
+    ((k : ℕ) → k < n → T (noBetter (value k) (value l)) → T (otherNoBetter (otherValue k) (otherValue l))) →
+    ((k : ℕ) → k < n → (otherValue k ≡ otherValue l) ↔ (value k ≡ value l)) →
+    Best n otherNoBetter otherValue l (otherValue l) tied
+best-map n noBetter value otherNoBetter otherValue l v tied p order same = record {
+  inside = p .inside;
+  attained = refl;
+  best = λ k h. order k h (subst (λ x. T (noBetter (value k) x)) (p .attained) (p .best k h));
+  earliest = λ k h e. p .earliest k h (same k (lt-trans h (p .inside)) .0 e ∙ sym (p .attained));
+  tie = (
+    λ t. ∥∥₁-map (p .tie .0 t) (λ r. (r .0, r .1, r .2, same (r .0) (r .1) .1 (r .3 ∙ p .attained))),
+    λ t. p .tie .1 (∥∥₁-map t (λ r. (r .0, r .1, r .2, same (r .0) (r .1) .0 (r .3) ∙ sym (p .attained)))),
+  );
+}

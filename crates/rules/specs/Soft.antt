@@ -5,15 +5,18 @@
 --           heardFour re im s      for h = 2: re, im, -re, -im for symbols 0, 1, 2, 3, which stand at 1, j, -1, -j
 --           heard h ys i s         what symbol s adds at place i; for h = 2 the real part stands before the imaginary
 --           correlation h m ys l   the sum over places for label l's word; nothing is divided
+--           clean h m a w          the soft values of symbols w at amplitude a, with no noise; unit soft values are those
+--                                  at amplitude 1
 -- Assumes nothing: these are definitions.
-use Prim.Native.Nat.{ℕ, zero, suc, _+_, _*_}
+use Prim.Native.Nat.{ℕ, zero, suc, _+_, _*_, _/_, _%_}
 use mathlib.Core.Bool.{cond}
 use mathlib.Core.List.{List}
 use lib.Dec.{eqb}
-use lib.IntN.{ℤ, negℤ}
+use lib.IntN.{ℤ, pos, negℤ}
+use Rattle.range.specs.Below.{listBelow}
 use Rattle.range.specs.Signed.{sumℤ, negatedIf, entry}
-use Rattle.rules.specs.Shape.{carriers}
-use Rattle.rules.specs.Word.{wordAt}
+use Rattle.rules.specs.Shape.{carriers, halfTurn}
+use Rattle.rules.specs.Word.{wordAt, symbolAt}
 
 abbrev pub softLength : ℕ → ℕ → ℕ
 softLength h m = cond (eqb h 1) (carriers m) (2 * carriers m)
@@ -34,3 +37,12 @@ heard h ys i s =
 
 unfoldable pub correlation : ℕ → ℕ → List ℤ → ℕ → ℤ
 correlation h m ys l = sumℤ (carriers m) (λ i. heard h ys i (wordAt h m l i))
+
+-- value j belongs to place j / 2^(h-1): a where the symbol is the phase of that value, -a where it is half a turn on
+unfoldable pub cleanAt : ℕ → ℕ → List ℕ → ℕ → ℤ
+cleanAt h a w j =
+    cond (eqb (symbolAt w (j / halfTurn h)) (j % halfTurn h)) (pos a)
+    (cond (eqb (symbolAt w (j / halfTurn h)) (j % halfTurn h + halfTurn h)) (negℤ (pos a)) (pos 0))
+
+unfoldable pub clean : ℕ → ℕ → ℕ → List ℕ → List ℤ
+clean h m a w = listBelow (softLength h m) (cleanAt h a w)

@@ -1,5 +1,5 @@
-// Writes text, numbers, words, areas and refusals to standard output, for the programs. No contract can speak of what
-// is written; each function is proved to stay within its slice and to end.
+// Writes text, numbers, words, areas, soft values and refusals to standard output, for the programs. No contract can
+// speak of what is written; each function is proved to stay within its slice and to end.
 use kinds::Place;
 use kinds::Refusal;
 use libc::STDOUT_FILENO;
@@ -37,6 +37,21 @@ pub fn area(entries: &[i32]) {
 fn entry(x: i32) {
     say(b" ");
     signed(x);
+}
+
+// Soft values, in the form of an area.
+pub fn values(y: &[i16]) {
+    say(b" [");
+    let mut i = 0;
+    while i < y.len() {
+        value(y[i]);
+        i += 1;
+    }
+    say(b" ]");
+}
+
+fn value(x: i16) {
+    entry(x as i32);
 }
 
 // The symbols of a word, one digit each.

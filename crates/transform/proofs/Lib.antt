@@ -3,7 +3,6 @@
 pub mod Bits
 pub mod Outcomes
 pub mod Halves
-pub mod Writing
 pub mod Stages
 pub mod Between
 pub mod Parts

@@ -4,12 +4,11 @@
 --           Readable s n a       a stage may read the first n entries of a: blocks of 2 s fill them, and no sum or
 --                                difference of two leaves 32 bits
 --           Block s p a d        the block that begins at p may be read of a and written to d
---           Written f d i d′ j   a list that, as d, is filled with f up to i is, as d′, filled up to j
 --           Taken m a b          nothing is refused: m is in range, each area has N entries, and the first N of a are
 --                                accepted
 --           firstAt m k a        what the first area holds after k stages: what the last even stage wrote, and
 --           secondAt m k a b     the second: what the last odd stage wrote; before any stage, b
--- Laws: proofs/Halves.antt, Writing.antt, Stages.antt.  Assumes nothing: these are definitions.
+-- Laws: proofs/Halves.antt, Stages.antt.  Assumes nothing: these are definitions.
 use Prim.Native.Nat.{ℕ, zero, suc, _+_, _-_, _*_, _/_, _%_, _^_, _≤_, _<_}
 use mathlib.Core.Path.{_≡_}
 use mathlib.Core.Bool.{true, cond}
@@ -41,10 +40,6 @@ pub record Block (s p : ℕ) (a d : List ℤ) : Type 0 where
   pub inside : p + s + s ≤ length a
   pub fits : p + s + s ≤ length d
   pub small : (i : ℕ) → i < p + s + s → mag (entry a i) < 2 ^ 30
-
-pub record Written (f : ℕ → ℤ) (d : List ℤ) (i : ℕ) (d′ : List ℤ) (j : ℕ) : Type 0 where
-  pub sized : length d′ ≡ length d
-  pub on : (l : List ℤ) → length d ≡ length l → d ≡ filled i f l → d′ ≡ filled j f l
 
 pub record Taken (m : ℕ) (a b : List ℤ) : Type 0 where
   pub range : inM m ≡ true

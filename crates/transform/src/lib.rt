@@ -17,7 +17,7 @@ ghost use lib.ListN.{length};
 ghost use ghost.Atoms.{sem};
 ghost use mir.Syntax.{w32};
 ghost use mir.Val.{SFits};
-ghost use Rattle.range.specs.Below.{firstBelow, filled};
+ghost use Rattle.range.specs.Below.{firstBelow, filled, Written};
 ghost use Rattle.range.specs.Signed.{entry};
 ghost use Rattle.rules.specs.Shape.{carriers};
 ghost use Rattle.rules.specs.Spectrum.{accepted};
@@ -25,7 +25,7 @@ ghost use Rattle.rules.specs.Refusal.{transformRefusal};
 ghost use Rattle.kinds.specs.Told.{searchTold};
 ghost use Rattle.transform.specs.Told.{judgedTold, Ran, Handed};
 ghost use Rattle.transform.specs.Remains.{Remains};
-ghost use Rattle.transform.specs.Steps.{butterfly, firstAt, secondAt, Readable, Block, Written, Taken};
+ghost use Rattle.transform.specs.Steps.{butterfly, firstAt, secondAt, Readable, Block, Taken};
 
 // The least and the greatest input that is taken.
 const WIDEST: i32 = 32768;

@@ -8,10 +8,10 @@ use lib.ListN.{length}
 use denote.Ref.{now}
 use Rattle.range.specs.Signed.{entry}
 use Rattle.range.proofs.SumsSigned.{mag-sub}
+use Rattle.range.proofs.Writing.{Filling, filling-none, filling-turn, filling-end}
 use Rattle.transform.specs.Steps.{butterfly}
 use Rattle.transform.proofs.Bits.{bits-back}
 use Rattle.transform.proofs.Halves.{butterfly-second}
-use Rattle.transform.proofs.Writing.{Filling, filling-none, filling-turn, filling-end}
 use Rattle.transform.proofs.differences.Statement.{statement}
 use Rattle.transform.proofs.differences.Tie as tie
 

@@ -8,10 +8,11 @@ use mathlib.Core.List.{List}
 use lib.IntN.{ℤ}
 use lib.ListN.{length}
 use denote.Ref.{now}
+use Rattle.range.specs.Below.{Written}
 use Rattle.range.specs.Signed.{entry}
-use Rattle.transform.specs.Steps.{butterfly, Start, Block, Written}
+use Rattle.range.proofs.Writing.{written-none, written-trans, written-end}
+use Rattle.transform.specs.Steps.{butterfly, Start, Block}
 use Rattle.transform.proofs.Halves.{start-zero, start-next, start-le}
-use Rattle.transform.proofs.Writing.{written-none, written-trans, written-end}
 use Rattle.transform.proofs.pass.Statement.{statement}
 use Rattle.transform.proofs.pass.Tie as tie
 

@@ -1,0 +1,135 @@
+-- From a search to an answer: a table of small gains is accepted, its search gives the best total, and that is the
+-- greatest correlation, or the least distance. In order: the gains of a table are small, and so are its totals; what the
+-- search gives; the answer of soft decoding; the answer of hard decoding.
+-- Not here: totals, correlations and distances (totals, Answers).  Assumes nothing.
+use Prim.Native.Nat.{ℕ, _-_, _*_, _^_, _≤_, _<_, zero-le}
+use native.Mathlib.Nat.{mul-le-mul, le-refl}
+use native.Mathlib.Decide.{decLt}
+use native.Mathlib.Omega.{arith}
+use mathlib.Core.Path.{_≡_, sym, _∙_, ap, subst}
+use mathlib.Core.Bool.{Bool, true}
+use mathlib.Core.List.{List}
+use lib.Dec.{leb, lit≤}
+use lib.IntN.{ℤ, pos, _-ℤ_}
+use lib.ListN.{length, getD, List·getD-eq-default}
+use lib.Pow.{pow-mono}
+use lib.Signed.{mag}
+use borrow.Author.Tests.{le-leb}
+use Rattle.range.specs.Below.{listBelow}
+use Rattle.range.specs.Signed.{entry}
+use Rattle.range.proofs.Lists.{length-listBelow, listBelow-at}
+use Rattle.range.proofs.Sums.{sumBelow-le}
+use Rattle.range.proofs.Tests.{allBelow-of}
+use Rattle.rules.specs.Shape.{inShape, phases, halfTurn, carriers, greatestM, messages}
+use Rattle.rules.specs.Label.{labels, labelOf, messageOf}
+use Rattle.rules.specs.Word.{wordAt, symbolAt}
+use Rattle.rules.specs.Best.{Best}
+use Rattle.rules.specs.Outcome.{allowed}
+use Rattle.rules.specs.Refusal.{softRefusal, hardRefusal}
+use Rattle.rules.proofs.Range.{InRange, inShape-range}
+use Rattle.rules.proofs.Silence.{labels-two}
+use Rattle.words.proofs.Labels.{labelOf-messageOf, messageOf-lt}
+use Rattle.totals.specs.Totals.{totalOf}
+use Rattle.totals.specs.Gains.{loudest, softGain, hardGain, tableOf}
+use Rattle.totals.proofs.SoftTotals.{softGain-le}
+use Rattle.totals.proofs.HardTotals.{hardGain-le}
+use Rattle.totals.proofs.Answers.{soft-greatest, hard-nearest}
+use Rattle.standing.specs.declared.Standing.{Standing}
+use Rattle.standing.specs.Lead.{lead, tiedOf}
+use Rattle.standing.proofs.Leading.{lead-best}
+use Rattle.engine.specs.Search.{mostGain, accepts, searched}
+use Rattle.engine.proofs.Accepting.{accepts-small, searched-is}
+use Rattle.decoder.specs.declared.Loudest.{Loudest}
+use Rattle.decoder.specs.declared.Closest.{Closest}
+use Rattle.decoder.specs.Told.{Loud, Near}
+
+-- st has the best total of the gains f, and it is no greater than b at every place
+abbrev Leads : ℕ → ℕ → ℕ → (ℕ → ℕ → ℕ) → Standing → Type 0
+Leads h m b f st =
+    Best (labels h m) leb (totalOf h m (tableOf h m f)) (st .label) (st .best) (tiedOf st) × (st .best ≤ carriers m * b)
+
+module _ (h m b : ℕ) (f : ℕ → ℕ → ℕ) (low : (i s : ℕ) → f i s ≤ b) where
+  table-le : (e : ℕ) → getD (tableOf h m f) e 0 ≤ b
+  unfolding tableOf
+  table-le e = at (decLt e (phases h * carriers m))
+    where
+      at : Dec (e < phases h * carriers m) → getD (tableOf h m f) e 0 ≤ b
+      at (yes l) = rw (listBelow-at {A = ℕ} (phases h * carriers m) _ e 0 l) (low _ _)
+      at (no n) =
+          let q : length (tableOf h m f) ≤ e = omega (arith, length-tableOf) in
+          rw (List·getD-eq-default (tableOf h m f) 0 q) zero-le
+        where
+          length-tableOf : length (tableOf h m f) ≡ phases h * carriers m
+          length-tableOf = length-listBelow (phases h * carriers m) _
+
+  total-le : (l : ℕ) → totalOf h m (tableOf h m f) l ≤ carriers m * b
+  unfolding totalOf
+  total-le l = sumBelow-le (carriers m) b _ (λ i _. table-le _)
+
+  table-accepted : inShape h m ≡ true → h ≤ 2 → b ≤ mostGain → accepts h m (tableOf h m f) ≡ true
+  unfolding tableOf
+  table-accepted e two top =
+      sym (accepts-small h m (tableOf h m f) e two (length-listBelow (phases h * carriers m) _))
+      ∙ allBelow-of _ _ (λ i _. le-leb (getD (tableOf h m f) i 0) mostGain (omega (arith, table-le i)))
+
+  search-leads : inShape h m ≡ true → h ≤ 2 → b ≤ mostGain → (st : Standing) → st ≡ searched h m (tableOf h m f) →
+      Leads h m b f st
+  search-leads e two top st q =
+      let t : List ℕ = tableOf h m f in
+      let two-labels : 2 ≤ labels h m = labels-two h m (inShape-range h m e .h-least) in
+      let best = subst (λ (s : Standing). Best (labels h m) leb (totalOf h m t) (s .label) (s .best) (tiedOf s))
+      (sym (q ∙ searched-is h m t (table-accepted e two top))) (lead-best (totalOf h m t) (labels h m) two-labels) in
+      (best, omega (arith, best .attained, total-le (st .label)))
+
+-- what an answer tells is what the search gave
+module _ (h m : ℕ) (ok : inShape h m ≡ true) (two : h ≤ 2) (st : Standing) where
+  one : 1 ≤ h
+  one = inShape-range h m ok .h-least
+
+  carriers-le : carriers m ≤ carriers greatestM
+  carriers-le = pow-mono (inShape-range h m ok .m-most)
+
+  module _ (g : ℕ) (e : g ≡ messageOf h m (st .label)) where
+    message-inside : st .label < labels h m → g < messages h m
+    message-inside l = rw e (messageOf-lt h m (st .label) l)
+
+    label-back : st .label ≡ labelOf h m g
+    label-back = sym (ap (labelOf h m) e ∙ labelOf-messageOf h m (st .label))
+
+  module _ (ys : List ℤ) (small : (k : ℕ) → mag (entry ys k) < loudest)
+      (q : st ≡ searched h m (tableOf h m (softGain h ys))) where
+    heard : Leads h m (2 * loudest) (softGain h ys) st
+    heard = search-leads h m (2 * loudest) (softGain h ys) (softGain-le h ys small) ok two (lit≤ tt) st q
+
+    pub soft-best-le : st .best ≤ 2 ^ 30
+    soft-best-le =
+        omega (arith, heard .1, mul-le-mul {n₁ = carriers m} {m₁ = 2 * loudest} {n₂ = carriers greatestM} carriers-le (le-refl (2 * loudest)))
+
+    pub soft-found : (a : Loudest) → softRefusal h m ys ≡ allowed → a .message .0 ≡ messageOf h m (st .label) →
+        a .correlation ≡ pos (st .best) -ℤ pos (carriers m * loudest) → a .tied ≡ tiedOf st → Loud h m ys a
+    soft-found a taken e v t = record {
+      taken = taken;
+      inside = message-inside (a .message .0) e (heard .0 .inside);
+      greatest = rw (sym (label-back (a .message .0) e), v, t)
+          (soft-greatest h m ys (st .label) (st .best) (tiedOf st) one two small (heard .0));
+    }
+
+  module _ (w : List ℕ) (inside : (i : ℕ) → i < carriers m → symbolAt w i < phases h)
+      (q : st ≡ searched h m (tableOf h m (hardGain h w))) where
+    matched : Leads h m (halfTurn h) (hardGain h w) st
+    matched = search-leads h m (halfTurn h) (hardGain h w) (hardGain-le h w) ok two top st q
+      where
+        top : halfTurn h ≤ mostGain
+        top = pow-mono {i = h - 1} {j = 25} (omega (arith, two))
+
+    pub hard-best-le : st .best ≤ carriers m * halfTurn h
+    hard-best-le = matched .1
+
+    pub hard-found : (a : Closest) → hardRefusal h m w ≡ allowed → a .message .0 ≡ messageOf h m (st .label) →
+        a .distance ≡ carriers m * halfTurn h - st .best → a .tied ≡ tiedOf st → Near h m w a
+    hard-found a taken e v t = record {
+      taken = taken;
+      inside = message-inside (a .message .0) e (matched .0 .inside);
+      nearest = rw (sym (label-back (a .message .0) e), v, t)
+          (hard-nearest h m w (st .label) (st .best) (tiedOf st) one inside (matched .0));
+    }

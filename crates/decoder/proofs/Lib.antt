@@ -1,0 +1,7 @@
+-- Laws of the decoder's steps, and of its promises.
+pub mod Casts
+pub mod Tables
+pub mod Values
+pub mod Outcomes
+pub mod Taken
+pub mod Found

@@ -1,0 +1,85 @@
+-- `decoder::as_correlation` meets its contract: the correlation lies N times 32,768 below the total, and neither number
+-- nor their difference leaves 32 bits.
+-- Assumes nothing.
+use Prim.Native.Nat.{ℕ, _*_, _^_, _≤_}
+use native.Mathlib.Omega.{arith}
+use mathlib.Core.Path.{_≡_, refl, sym, _∙_, ap}
+use lib.IntN.{ℤ, pos, _-ℤ_, _*ℤ_}
+use mir.Syntax.{w32}
+use mir.Val.{SFits, ofZ, toZ}
+use mir.ValLaws.{toZ-pos, toZ-ofZ}
+use borrow.Author.Needs.{needs}
+use Rattle.rules.specs.Shape.{carriers, greatestM}
+use Rattle.rules.proofs.Range.{inShape-range, carriers-most}
+use Rattle.shape.proofs.Powers.{power-carriers}
+use Rattle.totals.specs.Gains.{loudest}
+use Rattle.decoder.proofs.Casts.{natural-fits, natural-is, mag-difference}
+use Rattle.decoder.proofs.as_correlation.Statement.{statement}
+use Rattle.decoder.proofs.as_correlation.Tie as tie
+
+power-requires : tie.Need-power-requires
+power-requires c κs = search needs
+
+-- n is N, at most 32
+places : (c : tie.After-power) → c .power .result ≡ carriers (c .before .args .m)
+places c = c .power .ensures ∙ power-carriers (c .before .args .h) (c .before .args .m) (c .before .pre .0)
+
+places-most : (c : tie.After-power) → carriers (c .before .args .m) ≤ carriers greatestM
+places-most c = carriers-most _ _ (inShape-range (c .before .args .h) (c .before .args .m) (c .before .pre .0))
+
+cast-n : tie.Need-cast-n
+cast-n c = record { sfits = omega (arith, places c, places-most c) }
+
+message-of-requires : tie.Need-message-of-requires
+message-of-requires c κs = search needs
+
+cast-t7 : tie.Need-cast-t7
+cast-t7 c = search needs
+
+-- the greatest total, and what it is raised by
+abbrev best : tie.After-power → ℕ
+best c = c .before .args .st .best
+
+abbrev raise : tie.After-power → ℕ
+raise c = carriers (c .before .args .m) * loudest
+
+raise-most : (c : tie.After-power) → raise c ≤ carriers greatestM * loudest
+raise-most c = omega (arith, places-most c)
+
+-- the product and the difference, as the locals hold them
+product : (c : tie.After-power) → pos (raise c) ≡ toZ w32 (c .power .result) *ℤ pos loudest
+product c = sym (rw (toZ-pos w32 (c .power .result) (cast-n c .sfits), places c))
+
+difference : (c : tie.After-power) →
+    toZ w32 (best c) -ℤ toZ w32 (ofZ w32 (toZ w32 (c .power .result) *ℤ pos loudest)) ≡ pos (best c) -ℤ pos (raise c)
+difference c =
+    rw (
+      toZ-pos w32 (best c) (omega (arith, c .before .pre .1)),
+      natural-is (toZ w32 (c .power .result) *ℤ pos loudest) (raise c) (product c) (omega (arith, raise-most c)),
+    )
+
+difference-fits : (c : tie.After-power) → SFits w32 (pos (best c) -ℤ pos (raise c))
+difference-fits c = record {
+  sfits = mag-difference (best c) (raise c) (2 ^ 31) (omega (arith, c .before .pre .1)) (omega (arith, raise-most c));
+}
+
+mul-t8 : tie.Need-mul-t8
+mul-t8 c =
+    let at-power = c .before .before in
+    natural-fits (toZ w32 (at-power .power .result) *ℤ pos loudest) (raise at-power) (product at-power)
+    (omega (arith, raise-most at-power))
+
+sub-t9 : tie.Need-sub-t9
+sub-t9 c = rw (difference (c .before .before)) (difference-fits (c .before .before))
+
+returns : tie.Need-returns
+returns c =
+    let at-power = c .before .before .before in (
+      c .before .before .message-of .ensures,
+      ap (λ (z : ℤ). toZ w32 (ofZ w32 z)) (difference at-power) ∙ toZ-ofZ w32 _ (difference-fits at-power),
+      refl,
+    )
+
+pub as-correlation-spec : {M : Type 1} → statement M
+as-correlation-spec =
+    tie.close (tie.spec power-requires cast-n message-of-requires cast-t7 mul-t8 sub-t9 returns)

@@ -1,0 +1,50 @@
+-- `decoder::hear` meets its contract: the label of greatest total has the greatest correlation.
+-- Assumes nothing.
+use mathlib.Core.Path.{_≡_, _∙_, ap}
+use denote.Ref.{now}
+use borrow.Author.Needs.{needs}
+use Rattle.totals.specs.Gains.{softGain, tableOf}
+use Rattle.engine.specs.Search.{searched}
+use Rattle.decoder.proofs.Taken.{SoftTaken, soft-taken}
+use Rattle.decoder.proofs.Found.{soft-best-le, soft-found}
+use Rattle.decoder.proofs.hear.Statement.{statement}
+use Rattle.decoder.proofs.hear.Tie as tie
+
+-- what holds where nothing is refused
+taken : (s : tie.Start) → SoftTaken (s .args .h) (s .args .m) (now (s .args .values))
+taken s = soft-taken _ _ _ (s .pre .0)
+
+raise-requires : tie.Need-raise-requires
+raise-requires c κs =
+    let s = c .before .before in
+    ((taken s .shape, taken s .few), (taken s .long, s .pre .1))
+
+search-requires : tie.Need-search-requires
+search-requires c κs = search needs
+
+-- the standing is that of the gains
+searched-gains : (c : tie.After-search) → let args = c .before .before .before .before .before .before .before .args in
+    c .search .result ≡ searched (args .h) (args .m) (tableOf (args .h) (args .m) (softGain (args .h) (now (args .values))))
+searched-gains c =
+    let args = c .before .before .before .before .before .before .before .args in
+    c .search .ensures ∙ ap (searched (args .h) (args .m)) (c .before .before .before .before .raise .ensures .0)
+
+as-correlation-requires : tie.Need-as-correlation-requires
+as-correlation-requires c κs =
+    let s = c .before .before .before .before .before .before .before in
+    (taken s .shape, soft-best-le _ _ (taken s .shape) (taken s .few) (c .search .result) (now (s .args .values)) (c .before .before .before .before .raise .ensures .1) (searched-gains c))
+
+same-length : tie.Need-same-length
+same-length c = search needs
+
+returns : tie.Need-returns
+returns c =
+    let found = c .before in
+    let s = found .before .before .before .before .before .before .before in
+    let e = c .as-correlation .ensures in
+    soft-found _ _ (taken s .shape) (taken s .few) (found .search .result) (now (s .args .values)) (found .before .before .before .before .raise .ensures .1)
+    (searched-gains found) (c .as-correlation .result) (s .pre .0) (e .0) (e .1) (e .2)
+
+pub hear-spec : {M : Type 1} → statement M
+hear-spec =
+    tie.close (tie.spec raise-requires search-requires as-correlation-requires same-length returns)

@@ -1,0 +1,83 @@
+-- `decoder::soft_gain` meets its contract: a symbol below half a turn gains the value that it adds, raised, and any
+-- other the value half a turn before it, lowered. A value that is read is a sixteen-bit number.
+-- Assumes nothing.
+use Prim.Native.Nat.{ℕ, _+_, _-_, _*_, _≤_, _<_}
+use native.Mathlib.Omega.{arith}
+use mathlib.Core.Path.{_≡_, _∙_, ap}
+use mathlib.Core.List.{List}
+use lib.IntN.{ℤ}
+use mir.Syntax.{w16}
+use mir.ValLaws.{toZ-ofZ}
+use denote.Ref.{now}
+use borrow.Author.Needs.{needs}
+use borrow.Author.Tests.{lt-ltb, le-ltb}
+use Rattle.range.specs.Signed.{entry}
+use Rattle.rules.specs.Shape.{halfTurn}
+use Rattle.totals.specs.Gains.{loudest, raised, softGain}
+use Rattle.decoder.proofs.soft_gain.Statement.{statement}
+use Rattle.decoder.proofs.soft_gain.Tie as tie
+
+-- what the symbols of the first and of the second half turn gain
+module _ (h : ℕ) (ys : List ℤ) (half i s : ℕ) (e : half ≡ halfTurn h) where
+  first : s < half → raised (entry ys (half * i + s)) ≡ softGain h ys i s
+  unfolding softGain
+  first l = rw (← e, lt-ltb s half l)
+
+  second : half ≤ s → 2 * loudest - raised (entry ys (half * i + (s - half))) ≡ softGain h ys i s
+  unfolding softGain
+  second l = rw (← e, le-ltb s half l)
+
+mul-raised : tie.Need-mul-raised
+mul-raised c = search needs
+
+add-raised : tie.Need-add-raised
+add-raised c = search needs
+
+mul-raised-2 : tie.Need-mul-raised-2
+mul-raised-2 c = search needs
+
+shared-slice-copy-out-raised : tie.Need-shared-slice-copy-out-raised
+shared-slice-copy-out-raised c = search needs
+
+raised-requires : tie.Need-raised-requires
+raised-requires c κs = search needs
+
+returns : tie.Need-returns
+returns c =
+    let args = c .before .before .before .args in
+    let y = entry (now (args .values)) (args .half * args .i + args .s) in (
+      λ h e. c .raised .ensures ∙ ap raised (toZ-ofZ w16 y (record { sfits = c .before .raised-arg .given }))
+          ∙ first h (now (args .values)) (args .half) (args .i) (args .s) e (c .before .before .if1 .taken),
+      λ l. c .before .raised-arg .given,
+    )
+
+mul-lowered : tie.Need-mul-lowered
+mul-lowered c = search needs
+
+add-lowered : tie.Need-add-lowered
+add-lowered c = search needs
+
+mul-lowered-2 : tie.Need-mul-lowered-2
+mul-lowered-2 c = search needs
+
+shared-slice-copy-out-lowered : tie.Need-shared-slice-copy-out-lowered
+shared-slice-copy-out-lowered c = search needs
+
+lowered-requires : tie.Need-lowered-requires
+lowered-requires c κs = search needs
+
+returns-2 : tie.Need-returns-2
+returns-2 c =
+    let args = c .before .before .before .args in
+    let y = entry (now (args .values)) (args .half * args .i + (args .s - args .half)) in (
+      λ h e. c .lowered .ensures
+          ∙ ap (λ (z : ℤ). 2 * loudest - raised z) (toZ-ofZ w16 y (record { sfits = c .before .lowered-arg .given }))
+          ∙ second h (now (args .values)) (args .half) (args .i) (args .s) e (c .before .before .if1 .left),
+      λ l. absurd (omega (arith, l, c .before .before .if1 .left)),
+    )
+
+pub soft-gain-spec : {M : Type 1} → statement M
+soft-gain-spec =
+    tie.close
+    (tie.spec mul-raised add-raised mul-raised-2 shared-slice-copy-out-raised raised-requires returns mul-lowered
+    add-lowered mul-lowered-2 shared-slice-copy-out-lowered lowered-requires returns-2)

@@ -1,0 +1,49 @@
+-- `decoder::weigh` meets its contract: the label of greatest total is the nearest.
+-- Assumes nothing.
+use mathlib.Core.Path.{_≡_, _∙_, ap}
+use denote.Ref.{now}
+use borrow.Author.Needs.{needs}
+use Rattle.totals.specs.Gains.{hardGain, tableOf}
+use Rattle.engine.specs.Search.{searched}
+use Rattle.decoder.proofs.Taken.{HardTaken, hard-taken}
+use Rattle.decoder.proofs.Found.{hard-best-le, hard-found}
+use Rattle.decoder.proofs.weigh.Statement.{statement}
+use Rattle.decoder.proofs.weigh.Tie as tie
+
+-- what holds where nothing is refused
+taken : (s : tie.Start) → HardTaken (s .args .h) (s .args .m) (now (s .args .word))
+taken s = hard-taken _ _ _ (s .pre .0)
+
+compare-requires : tie.Need-compare-requires
+compare-requires c κs =
+    let s = c .before .before .before in
+    ((taken s .shape, taken s .few), (taken s .long, s .pre .1))
+
+search-requires : tie.Need-search-requires
+search-requires c κs = search needs
+
+-- the standing is that of the gains
+searched-gains : (c : tie.After-search) → let args = c .before .before .before .before .before .before .before .before .args in
+    c .search .result ≡ searched (args .h) (args .m) (tableOf (args .h) (args .m) (hardGain (args .h) (now (args .word))))
+searched-gains c =
+    let args = c .before .before .before .before .before .before .before .before .args in
+    c .search .ensures ∙ ap (searched (args .h) (args .m)) (c .before .before .before .before .compare .ensures)
+
+as-distance-requires : tie.Need-as-distance-requires
+as-distance-requires c κs =
+    let s = c .before .before .before .before .before .before .before .before in
+    (taken s .shape, hard-best-le _ _ (taken s .shape) (taken s .few) (c .search .result) (now (s .args .word)) (taken s .inside) (searched-gains c))
+
+same-length : tie.Need-same-length
+same-length c = search needs
+
+returns : tie.Need-returns
+returns c =
+    let found = c .before in
+    let s = found .before .before .before .before .before .before .before .before in
+    let e = c .as-distance .ensures in
+    hard-found _ _ (taken s .shape) (taken s .few) (found .search .result) (now (s .args .word)) (taken s .inside)
+    (searched-gains found) (c .as-distance .result) (s .pre .0) (e .0) (e .1) (e .2)
+
+pub weigh-spec : {M : Type 1} → statement M
+weigh-spec = tie.close (tie.spec compare-requires search-requires as-distance-requires same-length returns)

@@ -1,0 +1,185 @@
+-- The labels of one path: specs/Tables.antt, Path. In order: its first label is one, and so are the others; its word can
+-- be put into the gains; the first table, of which the stages may begin; what they answer, in terms of totals.
+-- Not here: the stages (Climbing).  Assumes nothing.
+use Prim.Native.Nat.{ℕ, suc, _+_, _-_, _*_, _^_, _≤_, _<_}
+use native.Mathlib.Nat.{one-mul, mul-le-mul, le-refl, pow-suc, pow-succ', pow-le-pow-left, pow-le-pow-right, one-le-pow}
+use native.Mathlib.Decide.{decLt}
+use native.Mathlib.Numerals.{add-one}
+use native.Mathlib.Omega.{arith}
+use mathlib.Core.Path.{_≡_, refl, sym, _∙_, ap, subst}
+use mathlib.Core.List.{List}
+use lib.Dec.{lit<, lit≤}
+use lib.ListN.{length, getD, take, List·getD-eq-default}
+use lib.Pow.{pow-mono, pow-add}
+use Rattle.range.specs.Below.{listBelow}
+use Rattle.range.proofs.Lists.{length-listBelow, listBelow-at}
+use Rattle.rules.specs.Shape.{greatestM, phases, carriers, pathsInUse, pathBits}
+use Rattle.rules.specs.Label.{labels}
+use Rattle.rules.specs.Word.{wordAt}
+use Rattle.rules.proofs.Range.{InRange, inShape-range, messageBits-le, phases-least}
+use Rattle.words.proofs.Labels.{phases-pow}
+use Rattle.words.proofs.Forms.{wordAt-lt}
+use Rattle.totals.specs.Totals.{totalOf}
+use Rattle.totals.specs.Climb.{turnedAt, turned, climbs, byLabel}
+use Rattle.totals.proofs.Runs.{length-turned, turned-at}
+use Rattle.totals.proofs.Totals.{byLabel-total}
+use Rattle.standing.specs.declared.Standing.{Standing}
+use Rattle.standing.specs.Lead.{leadFrom}
+use Rattle.standing.proofs.Lead.{leadFrom-cong}
+use Rattle.engine.specs.Tables.{area, mostTotal, Runs, Turning, tableIn, Climbing, Paths, Path}
+use Rattle.engine.proofs.RunLaws.{times-within}
+use Rattle.engine.proofs.Climbing.{wanted}
+
+-- all labels are those of the paths in use
+pub labels-paths : (h m : ℕ) → pathsInUse m * phases h ^ (m + 1) ≡ labels h m
+labels-paths h m = rw (phases-pow h (m + 1)) (sym (pow-add 2 (pathBits m) (h * (m + 1))))
+
+-- and they can be counted
+pub labels-le : (h m : ℕ) → InRange h m → labels h m ≤ 2 ^ 32
+labels-le h m r = omega (arith, pow-mono (messageBits-le h m r))
+
+module _ (h m q half l : ℕ) (g w xs ys : List ℕ) (p : Path h m q half l g w xs ys) where
+  range : InRange h m
+  range = inShape-range h m (p .shape)
+
+  path-labels : l + phases h ^ (m + 1) ≤ labels h m
+  path-labels =
+      omega (arith, p .first, labels-paths h m, times-within (p .number) (pathsInUse m) (phases h ^ (m + 1)) (p .used))
+
+  pub path-first : l < labels h m
+  path-first = omega (arith, path-labels, one-le-pow (m + 1) (phases h) (omega (arith, phases-least h m range)))
+
+  -- N is twice half of it
+  path-carriers : carriers m ≡ 2 * half
+  path-carriers =
+      let e : m ≡ suc (m - 1) = omega (arith, range .m-least) in
+      ap (λ (k : ℕ). 2 ^ k) e ∙ pow-succ' 2 (m - 1) ∙ ap (λ (k : ℕ). 2 * k) (sym (p .halved))
+
+  -- the areas have room for the first table
+  pub path-room : length g ≤ length xs
+  path-room =
+      let a : 2 ^ (m - 1) ≤ phases h ^ (m - 1) = pow-le-pow-left (phases-least h m range) (m - 1) in
+      let b : 2 * phases h * 2 ^ (m - 1) ≤ 2 * phases h * phases h ^ (m - 1) = mul-le-mul (le-refl (2 * phases h)) a in
+      let e : m ≡ suc (m - 1) = omega (arith, range .m-least) in
+      let c : phases h ^ m ≡ phases h * phases h ^ (m - 1) = ap (λ (k : ℕ). phases h ^ k) e ∙ pow-succ' (phases h) (m - 1) in
+      let d : phases h * carriers m ≡ 2 * phases h * 2 ^ (m - 1) =
+      ap (λ (k : ℕ). phases h * k) (path-carriers ∙ ap (λ (k : ℕ). 2 * k) (p .halved)) ∙ omega arith in
+      omega (arith, p .gains, p .areas .0)
+
+  -- the path's own word, put into the gains
+  module _ (v : List ℕ) (e : v ≡ listBelow (carriers m) (wordAt h m l)) where
+    long : length v ≡ carriers m
+    long = ap length e ∙ length-listBelow (carriers m) (wordAt h m l)
+
+    pub path-turning : Turning q v g
+    path-turning = record {
+      long = p .gains ∙ rw (sym (p .symbols), sym long);
+      symbols = λ i b. rw (e, p .symbols, listBelow-at (carriers m) (wordAt h m l) i 0 (omega (arith, long)))
+          (wordAt-lt h m l i);
+    }
+
+    -- the table at the front of an area
+    module _ (zs : List ℕ) (f : take (length g) zs ≡ turned q (length v) v g) where
+      table-first : tableIn q half 1 zs ≡ turned q (carriers m) v g
+      table-first =
+          let n : 2 * (q * half) * 1 ≡ length g =
+          omega (arith, p .gains, ap (λ (k : ℕ). q * k) path-carriers, ap (λ (k : ℕ). k * carriers m) (p .symbols)) in
+          ap (λ (k : ℕ). take k zs) n ∙ f ∙ ap (λ (k : ℕ). turned q k v g) long
+
+      -- each number of it is a gain
+      first-small : (i : ℕ) → getD (turned q (carriers m) v g) i 0 * carriers m ≤ mostTotal
+      unfolding turnedAt
+      first-small i = at (decLt i (q * carriers m))
+        where
+          at : Dec (i < q * carriers m) → getD (turned q (carriers m) v g) i 0 * carriers m ≤ mostTotal
+          at (yes b) = rw (turned-at q (carriers m) v g i b) (p .small _)
+          at (no n) =
+              let b : length (turned q (carriers m) v g) ≤ i = omega (arith, length-turned q (carriers m) v g) in
+              rw (List·getD-eq-default (turned q (carriers m) v g) 0 b) (omega arith)
+
+      first-runs : Runs q half 1 (tableIn q half 1 zs)
+      first-runs = record {
+        symbols = omega (arith, p .symbols, phases-least h m range);
+        halves = omega (arith, p .halved, one-le-pow (m - 1) 2 (lit< tt));
+        run = omega arith;
+        long = ap length table-first ∙ length-turned q (carriers m) v g
+            ∙ omega (arith, ap (λ (k : ℕ). q * k) path-carriers);
+        small = λ i. rw (table-first, sym path-carriers) (first-small i);
+      }
+
+      -- q^m, as the stages count it
+      power-left : q ^ m ≡ q * q ^ (m - 1)
+      power-left =
+          let e : m ≡ suc (m - 1) = omega (arith, range .m-least) in
+          ap (λ (k : ℕ). q ^ k) e ∙ pow-succ' q (m - 1)
+
+      -- how many labels there are, and how many for each constant, as the stages count them
+      width : 1 * q ^ suc (m - 1) ≡ phases h ^ m
+      width =
+          let e : suc (m - 1) ≡ m = omega (arith, range .m-least) in
+          one-mul (q ^ suc (m - 1)) ∙ ap (λ (k : ℕ). q ^ k) e ∙ ap (λ (k : ℕ). k ^ m) (p .symbols)
+
+      size : 1 * q ^ suc (m - 1) * q ≡ phases h ^ (m + 1)
+      size = rw (width, p .symbols, add-one) (sym (pow-suc (phases h) m))
+
+      pub path-climbing : length zs ≡ length xs → Climbing (m - 1) q half 1 l zs ys
+      path-climbing s =
+          let u : 2 * phases h ^ m ≡ 2 * q * 1 * q ^ (m - 1) =
+          omega (arith, power-left, ap (λ (k : ℕ). k ^ m) (p .symbols)) in
+          record {
+            halved = p .halved;
+            symbols = omega (arith, p .symbols, phases-least h m range);
+            runs = first-runs;
+            first = omega (arith, p .areas .0);
+            second = omega (arith, p .areas .1);
+            counted = omega (arith, counted-labels);
+          }
+        where
+          counted-labels : l + 1 * q ^ suc (m - 1) * q ≤ 2 ^ 32
+          counted-labels = omega (arith, path-labels, size, labels-le h m range)
+
+      pub path-returned : (st r : Standing) → r ≡ wanted q half 1 l zs st (m - 1) →
+          r ≡ leadFrom l (λ j. totalOf h m g (l + j)) (phases h ^ (m + 1)) st
+      path-returned st r back =
+          let a : wanted q half 1 l zs st (m - 1)
+          ≡ leadFrom l (byLabel q (phases h ^ m) (climbs q m 1 (turned q (carriers m) v g))) (phases h ^ (m + 1)) st =
+          rw (size, width, table-first, left) in
+          back ∙ a ∙ leadFrom-cong l _ _ (phases h ^ (m + 1)) st total
+        where
+          left : suc (m - 1) ≡ m
+          left = omega (arith, range .m-least)
+
+          total : (j : ℕ) → j < phases h ^ (m + 1) →
+              byLabel q (phases h ^ m) (climbs q m 1 (turned q (carriers m) v g)) j ≡ totalOf h m g (l + j)
+          total j b = rw (e, p .first, p .symbols) (byLabel-total h m g (p .number) j b)
+
+-- the labels of all paths
+pub all-labels : {h m q half size uses : ℕ} {g w xs ys : List ℕ} → Paths h m q half size uses g w xs ys →
+    uses * size ≡ labels h m
+all-labels {h = h} {m = m} p = rw (p .used, p .sized) (labels-paths h m)
+
+-- the areas have room for the greatest shape, and so for each
+area-le : (h m : ℕ) → InRange h m → h ≤ 2 → 2 * phases h ^ m ≤ area
+area-le h m r b =
+    let a : phases h ^ m ≤ phases 2 ^ m = pow-le-pow-left (pow-mono b) m in
+    let c : phases 2 ^ m ≤ phases 2 ^ greatestM = pow-le-pow-right {n = phases 2} (lit≤ tt) (r .m-most) in
+    omega arith
+
+-- one path of all, the one with number n
+pub paths-path : (h m q half size uses l n : ℕ) (g w xs ys w′ xs′ ys′ : List ℕ) →
+    Paths h m q half size uses g w xs ys → n < uses → l ≡ n * size → length w′ ≡ length w → length xs′ ≡ length xs →
+    length ys′ ≡ length ys → Path h m q half l g w′ xs′ ys′
+paths-path h m q half size uses l n g w xs ys w′ xs′ ys′ p b e ew ex ey =
+    let top : 2 * phases h ^ m ≤ area = area-le h m (inShape-range h m (p .shape)) (p .few) in
+    record {
+      shape = p .shape;
+      symbols = p .symbols;
+      halved = p .halved;
+      number = n;
+      used = omega (arith, p .used);
+      first = e ∙ ap (λ (k : ℕ). n * k) (p .sized);
+      gains = p .gains;
+      small = p .small;
+      word = ew ∙ p .areas .word;
+      areas = (omega (arith, p .areas .first), omega (arith, p .areas .second));
+    }

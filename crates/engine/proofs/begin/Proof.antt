@@ -1,0 +1,35 @@
+-- `engine::begin` meets its contract: the first table is written to the front of the area.
+-- Assumes nothing.
+use mathlib.Core.Path.{sym, _∙_}
+use lib.Seq.{length-take-le}
+use denote.Ref.{now}
+use borrow.Author.Needs.{needs}
+use Rattle.totals.proofs.Runs.{length-turned}
+use Rattle.engine.proofs.RunLaws.{front-written}
+use Rattle.engine.proofs.begin.Statement.{statement}
+use Rattle.engine.proofs.begin.Tie as tie
+
+slice-relend-prefix-start : tie.Need-slice-relend-prefix-start
+slice-relend-prefix-start c = search needs
+
+slice-aggregate-start : tie.Need-slice-aggregate-start
+slice-aggregate-start c = sym (length-take-le _ _ (c .before .before .before .before .pre .1))
+
+start-requires : tie.Need-start-requires
+start-requires c κs =
+    let pre = c .before .before .before .before .pre in
+    (pre .0, length-take-le _ _ (pre .1) ∙ pre .0 .long)
+
+same-length : tie.Need-same-length
+same-length c = search needs
+
+returns : tie.Need-returns
+returns c =
+    let s = c .before .before .before .before .before .before .before in
+    front-written _ (now (s .args .x)) _ _ (s .pre .1)
+    (length-turned (s .args .q) _ (now (s .args .word)) (now (s .args .gains)) ∙ sym (s .pre .0 .long))
+    (c .before .before .start .ensures)
+
+pub begin-spec : {M : Type 1} → statement M
+begin-spec =
+    tie.close (tie.spec slice-relend-prefix-start slice-aggregate-start start-requires same-length returns)

@@ -1,0 +1,31 @@
+-- `engine::finish` meets its contract: the table at the front of the area is all that the last stage is given.
+-- Assumes nothing.
+use Prim.Native.Nat.{_*_}
+use native.Mathlib.Omega.{arith}
+use borrow.Author.Needs.{needs}
+use Rattle.engine.proofs.RunLaws.{times-least, runs-size}
+use Rattle.engine.proofs.finish.Statement.{statement}
+use Rattle.engine.proofs.finish.Tie as tie
+
+mul-n : tie.Need-mul-n
+mul-n c = search needs
+
+mul-n-2 : tie.Need-mul-n-2
+mul-n-2 c =
+    let s = c .before in
+    omega (arith, times-least (2 * (s .args .q * 1)) (s .args .w) (s .pre .0 .run), runs-size _ _ _ _ (s .pre .0))
+
+mul-n-3 : tie.Need-mul-n-3
+mul-n-3 c = omega (arith, runs-size _ _ _ _ (c .before .pre .0))
+
+slice-aggregate-last : tie.Need-slice-aggregate-last
+slice-aggregate-last c = search needs
+
+last-requires : tie.Need-last-requires
+last-requires c κs = search needs
+
+returns : tie.Need-returns
+returns c = search needs
+
+pub finish-spec : {M : Type 1} → statement M
+finish-spec = tie.close (tie.spec mul-n mul-n-2 mul-n-3 slice-aggregate-last last-requires returns)

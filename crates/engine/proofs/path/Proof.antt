@@ -1,0 +1,69 @@
+-- `engine::path` meets its contract: the path's own word is put into the gains, and the stages begin from there.
+-- Assumes nothing.
+use native.Mathlib.Omega.{arith}
+use mathlib.Core.Path.{_≡_}
+use denote.Ref.{now}
+use borrow.Author.Needs.{needs}
+use Rattle.rules.proofs.Range.{inShape-range}
+use Rattle.engine.proofs.PathLaws.{path-first, path-room, path-turning, path-climbing, path-returned}
+use Rattle.engine.proofs.path.Statement.{statement}
+use Rattle.engine.proofs.path.Tie as tie
+
+-- the function's entry, seen from behind the first table, and from behind the stages
+abbrev start : tie.After-begin → tie.Start
+start c = c .before .before .before .before .before .before .before .before .before .before .before
+
+abbrev begun : tie.After-climb → tie.After-begin
+begun c = c .before .before .before .before .before
+
+own-word-requires : tie.Need-own-word-requires
+own-word-requires c κs =
+    let p = c .before .before .before .before .before .pre in
+    (p .shape, path-first _ _ _ _ _ _ _ _ _ p, p .word)
+
+begin-requires : tie.Need-begin-requires
+begin-requires c κs =
+    let p = c .before .before .before .before .before .before .before .before .before .before .pre in
+    (path-turning _ _ _ _ _ _ _ _ _ p _ (c .before .before .before .before .own-word .ensures), path-room _ _ _ _ _ _ _ _ _ p)
+
+sub-climb : tie.Need-sub-climb
+sub-climb c =
+    let s = c .before .before .before .before .before .before .before .before .before .before .before .before .before in
+    omega (arith, inShape-range (s .args .h) (s .args .m) (s .pre .shape) .m-least)
+
+climb-requires : tie.Need-climb-requires
+climb-requires c κs =
+    let began = c .before .before .before .before in
+    let p = start began .pre in
+    path-climbing _ _ _ _ _ _ _ _ _ p _ (began .before .before .before .before .before .own-word .ensures) _ (began .begin .ensures .0)
+    (began .begin .ensures .1)
+
+same-length : tie.Need-same-length
+same-length c = search needs
+
+same-length-2 : tie.Need-same-length-2
+same-length-2 c = search needs
+
+same-length-3 : tie.Need-same-length-3
+same-length-3 c = search needs
+
+returns : tie.Need-returns
+returns c =
+    let climbed = c .before .before .before .before in
+    let began = begun climbed in
+    let s = start began in
+    path-returned _ _ _ _ _ (now (s .args .gains)) _ _ _ (s .pre) _ (began .before .before .before .before .before .own-word .ensures) _
+    (began .begin .ensures .0) (s .args .before) (climbed .climb .result) (climbed .climb .ensures)
+
+pub path-spec : {M : Type 1} → statement M
+path-spec =
+    tie.close
+    (tie.spec
+    own-word-requires
+    begin-requires
+    sub-climb
+    climb-requires
+    same-length
+    same-length-2
+    same-length-3
+    returns)

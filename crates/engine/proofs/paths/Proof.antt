@@ -1,0 +1,99 @@
+-- `engine::paths` meets its contract: the powers are the numbers that the shape gives.
+-- Assumes nothing.
+use Prim.Native.Nat.{ℕ, _^_}
+use native.Mathlib.Omega.{arith}
+use mathlib.Core.Path.{sym, _∙_, ap}
+use denote.Ref.{now}
+use borrow.Author.Needs.{needs}
+use Rattle.rules.proofs.Range.{InRange, inShape-range, pathBits-le, coefficientBits-le}
+use Rattle.shape.proofs.Powers.{power-is}
+use Rattle.words.proofs.Labels.{phases-pow}
+use Rattle.engine.proofs.Accepting.{Accepted, accepts-given, accepted-small}
+use Rattle.engine.proofs.paths.Statement.{statement}
+use Rattle.engine.proofs.paths.Tie as tie
+
+-- what the gains that are accepted say
+accepted : (s : tie.Start) → Accepted (s .args .h) (s .args .m) (now (s .args .gains))
+accepted s = accepts-given _ _ _ (s .pre .0)
+
+ranged : (s : tie.Start) → InRange (s .args .h) (s .args .m)
+ranged s = inShape-range _ _ (accepted s .shape)
+
+power-requires : tie.Need-power-requires
+power-requires c κs = search needs
+
+sub-power : tie.Need-sub-power
+sub-power c = omega (arith, ranged (c .before .before .before .before .before) .m-least)
+
+power-requires-2 : tie.Need-power-requires-2
+power-requires-2 c κs = search needs
+
+add-power : tie.Need-add-power
+add-power c = omega (arith, ranged (c .before .before .before .before .before .before) .m-most)
+
+mul-power : tie.Need-mul-power
+mul-power c =
+    let s = c .before .before .before .before .before .before in
+    omega (arith, coefficientBits-le (s .args .h) (s .args .m) (ranged s))
+
+power-requires-3 : tie.Need-power-requires-3
+power-requires-3 c κs = search needs
+
+path-bits-requires : tie.Need-path-bits-requires
+path-bits-requires c κs = search needs
+
+power-requires-4 : tie.Need-power-requires-4
+power-requires-4 c κs = search needs
+
+each-requires : tie.Need-each-requires
+each-requires c κs =
+    let used = c .before .before .before in
+    let bits = used .before .path-bits .ensures in
+    let sized = used .before .before in
+    let halved = sized .before in
+    let s = halved .before .before .before .before .before .before in
+    let args = s .args in
+    let r = ranged s in
+    record {
+      shape = accepted s .shape;
+      few = accepted s .few;
+      symbols = halved .before .power .ensures ∙ power-is (args .h) (omega (arith, r .h-most));
+      halved = halved .power2 .ensures ∙ power-is _ (omega (arith, r .m-most));
+      sized = sized .power3 .ensures ∙ power-is _ (omega (arith, coefficientBits-le (args .h) (args .m) r))
+          ∙ sym (phases-pow (args .h) _);
+      used = used .power4 .ensures ∙ power-is _ (omega (arith, bits, pathBits-le (args .m)))
+          ∙ ap (λ (e : ℕ). 2 ^ e) bits;
+      gains = accepted s .long;
+      small = accepted-small _ _ _ (accepted s);
+      areas = s .pre .1;
+    }
+
+same-length : tie.Need-same-length
+same-length c = search needs
+
+same-length-2 : tie.Need-same-length-2
+same-length-2 c = search needs
+
+same-length-3 : tie.Need-same-length-3
+same-length-3 c = search needs
+
+returns : tie.Need-returns
+returns c = search needs
+
+pub paths-spec : {M : Type 1} → statement M
+paths-spec =
+    tie.close
+    (tie.spec
+    power-requires
+    sub-power
+    power-requires-2
+    add-power
+    mul-power
+    power-requires-3
+    path-bits-requires
+    power-requires-4
+    each-requires
+    same-length
+    same-length-2
+    same-length-3
+    returns)

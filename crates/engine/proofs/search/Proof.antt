@@ -1,0 +1,86 @@
+-- `engine::search` meets its contract: gains that are not accepted are not searched, and the areas have room for the
+-- others.
+-- Assumes nothing.
+use Prim.Native.Nat.{_≤_}
+use native.Mathlib.Omega.{arith}
+use mathlib.Core.Path.{_≡_, sym, _∙_}
+use mathlib.Core.Bool.{true}
+use lib.Dec.{lit≤}
+use lib.Pow.{pow-mono}
+use lib.Seq.{length-take-le}
+use denote.Ref.{now}
+use borrow.Author.Needs.{needs}
+use borrow.Author.Tests.{not-true, not-false}
+use Rattle.rules.specs.Shape.{carriers, greatestM}
+use Rattle.rules.proofs.Range.{inShape-range}
+use Rattle.shape.proofs.Powers.{power-carriers}
+use Rattle.engine.specs.Search.{accepts}
+use Rattle.engine.proofs.Accepting.{accepts-given, searched-not, searched-is}
+use Rattle.engine.proofs.search.Statement.{statement}
+use Rattle.engine.proofs.search.Tie as tie
+
+takes-requires : tie.Need-takes-requires
+takes-requires c κs = search needs
+
+returns : tie.Need-returns
+returns c = searched-not _ _ _ (sym (c .before .takes .ensures) ∙ not-true _ (c .if1 .taken))
+
+power-requires : tie.Need-power-requires
+power-requires c κs = search needs
+
+-- behind the test the gains are accepted, and N is no more than the greatest
+taken : (c : tie.Else1) → let args = c .before .before .before .args in accepts (args .h) (args .m) (now (args .gains)) ≡ true
+taken c = sym (c .before .takes .ensures) ∙ not-false _ (c .if1 .left)
+
+places : (c : tie.After-power) → let args = c .before .before .before .before .args in c .power .result ≡ carriers (args .m)
+places c =
+    let args = c .before .before .before .before .args in
+    c .power .ensures ∙ power-carriers (args .h) (args .m) (accepts-given _ _ _ (taken (c .before)) .shape)
+
+fits : (c : tie.After-power) → c .power .result ≤ carriers greatestM
+fits c =
+    let args = c .before .before .before .before .args in
+    let r = inShape-range (args .h) (args .m) (accepts-given _ _ _ (taken (c .before)) .shape) in
+    omega (arith, places c, pow-mono (r .m-most))
+
+array-borrow-prefix-word : tie.Need-array-borrow-prefix-word
+array-borrow-prefix-word c = fits c
+
+slice-aggregate-paths : tie.Need-slice-aggregate-paths
+slice-aggregate-paths c = sym (length-take-le _ _ (fits (c .before)))
+
+slice-aggregate-paths-2 : tie.Need-slice-aggregate-paths-2
+slice-aggregate-paths-2 c = search needs
+
+slice-aggregate-paths-3 : tie.Need-slice-aggregate-paths-3
+slice-aggregate-paths-3 c = search needs
+
+paths-requires : tie.Need-paths-requires
+paths-requires c κs =
+    let powered = c .before .before .before in (
+      taken (powered .before),
+      record {
+        word = length-take-le _ _ (fits powered) ∙ places powered;
+        first = lit≤ tt;
+        second = lit≤ tt;
+      },
+    )
+
+returns-2 : tie.Need-returns-2
+returns-2 c =
+    let done = c .before .before .before in
+    done .paths .ensures ∙ sym (searched-is _ _ _ (taken (done .before .before .before .before .before)))
+
+pub search-spec : {M : Type 1} → statement M
+search-spec =
+    tie.close
+    (tie.spec
+    takes-requires
+    returns
+    power-requires
+    array-borrow-prefix-word
+    slice-aggregate-paths
+    slice-aggregate-paths-2
+    slice-aggregate-paths-3
+    paths-requires
+    returns-2)

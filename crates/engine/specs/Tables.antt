@@ -1,0 +1,77 @@
+-- The tables of the search as code holds them (totals, specs/Climb.antt has what stands in them).
+-- Defines:  area                  how many numbers an area for tables has
+--           mostTotal             no number of any table is above it
+--           Runs q half w xs      xs may be read by a stage: 2 q half runs of w numbers, each so small that the stages
+--                                 that follow stay within mostTotal
+--           Turning q w g         gains g, in q runs as long as the word w, may be turned by w
+--           Climbing d q half w l xs ys    d stages and the last may follow from a table at the front of the area xs, and
+--                                 go to and fro between xs and ys; the labels are counted from l
+--           tableIn q half w xs   the table at the front of the area xs
+--           Areas m w xs ys       the areas have room for a word, and for the tables of every path of two or four phases
+--           Paths h m q half size uses g w xs ys    all paths may be searched with the gains g, by way of the areas w
+--                                 for a word, and xs and ys for tables
+--           Path h m q half l g w xs ys    the labels of the path whose first label is l may be searched so
+-- Laws: proofs/RunLaws.antt.  Assumes nothing: these are definitions.
+use Prim.Native.Nat.{ℕ, suc, _+_, _-_, _*_, _^_, _≤_, _<_}
+use mathlib.Core.Path.{_≡_}
+use mathlib.Core.Bool.{true}
+use mathlib.Core.List.{List}
+use lib.ListN.{length, getD, take}
+use Rattle.rules.specs.Shape.{greatestM, inShape, phases, carriers, pathsInUse}
+
+-- 2 q^m for the most symbols and the greatest m
+abbrev pub area : ℕ
+area = 2 * phases 2 ^ greatestM
+
+abbrev pub mostTotal : ℕ
+mostTotal = 2 ^ 31
+
+pub record Runs (q half w : ℕ) (xs : List ℕ) : Type 0 where
+  pub symbols : 1 ≤ q
+  pub halves : 1 ≤ half
+  pub run : 1 ≤ w
+  pub long : length xs ≡ 2 * (q * half) * w
+  pub small : (i : ℕ) → getD xs i 0 * (2 * half) ≤ mostTotal
+
+pub record Turning (q : ℕ) (w g : List ℕ) : Type 0 where
+  pub long : length g ≡ q * length w
+  pub symbols : (i : ℕ) → i < length w → getD w i 0 < q
+
+abbrev pub tableIn : ℕ → ℕ → ℕ → List ℕ → List ℕ
+tableIn q half w xs = take (2 * (q * half) * w) xs
+
+pub record Climbing (d q half w l : ℕ) (xs ys : List ℕ) : Type 0 where
+  pub halved : half ≡ 2 ^ d
+  pub symbols : 2 ≤ q
+  pub runs : Runs q half w (tableIn q half w xs)
+  pub first : 2 * q * w * q ^ d ≤ length xs
+  pub second : 2 * q * w * q ^ d ≤ length ys
+  pub counted : l + w * q ^ suc d * q ≤ 2 ^ 32
+
+pub record Areas (m : ℕ) (w xs ys : List ℕ) : Type 0 where
+  pub word : length w ≡ carriers m
+  pub first : area ≤ length xs
+  pub second : area ≤ length ys
+
+pub record Paths (h m q half size uses : ℕ) (g w xs ys : List ℕ) : Type 0 where
+  pub shape : inShape h m ≡ true
+  pub few : h ≤ 2
+  pub symbols : q ≡ phases h
+  pub halved : half ≡ 2 ^ (m - 1)
+  pub sized : size ≡ phases h ^ (m + 1)
+  pub used : uses ≡ pathsInUse m
+  pub gains : length g ≡ phases h * carriers m
+  pub small : (i : ℕ) → getD g i 0 * carriers m ≤ mostTotal
+  pub areas : Areas m w xs ys
+
+pub record Path (h m q half l : ℕ) (g w xs ys : List ℕ) : Type 0 where
+  pub shape : inShape h m ≡ true
+  pub symbols : q ≡ phases h
+  pub halved : half ≡ 2 ^ (m - 1)
+  pub number : ℕ
+  pub used : number < pathsInUse m
+  pub first : l ≡ number * phases h ^ (m + 1)
+  pub gains : length g ≡ phases h * carriers m
+  pub small : (i : ℕ) → getD g i 0 * carriers m ≤ mostTotal
+  pub word : length w ≡ carriers m
+  pub areas : (2 * phases h ^ m ≤ length xs) × (2 * phases h ^ m ≤ length ys)

@@ -1,0 +1,76 @@
+-- Natural numbers and whole numbers a constant apart. In order: sums of natural numbers as whole numbers; sums whose
+-- summands are multiples of a constant, are a constant apart, or add up to a constant; taking the constant away again;
+-- two numbers raised by the same constant are equal, or in order, where the two from which they are raised are.
+-- Not here: other laws of sums (Sums, SumsSigned).  Assumes nothing.
+use Prim.Native.Nat.{ℕ, zero, suc, _+_, _-_, _*_, _≤_, _<_, zero-le, suc-le-suc}
+use native.Mathlib.Nat.{suc-mul, mul-add}
+use native.Mathlib.Omega.{arith}
+use mathlib.Core.Path.{_≡_, refl, sym, _∙_, ap}
+use mathlib.Core.Bool.{Bool, true, false, cond}
+use mathlib.Core.Logic.{_↔_}
+use lib.Dec.{T, ltb, le→leb}
+use lib.IntN.{ℤ, pos, negsuc, negℤ, natAbs, _+ℤ_, _-ℤ_, +ℤ-comm, +ℤ-negℤ-cancel}
+use lib.Signed.{leZ}
+use borrow.Author.Tests.{ltb-true, ltb-false}
+use Rattle.range.specs.Below.{sumBelow}
+use Rattle.range.specs.Signed.{sumℤ}
+use Rattle.range.proofs.SumsSigned.{+ℤ-swap, sumℤ-neg}
+
+pub sumℤ-pos : (n : ℕ) (f : ℕ → ℕ) → sumℤ n (λ i. pos (f i)) ≡ pos (sumBelow n f)
+unfolding sumℤ sumBelow
+sumℤ-pos zero f = refl
+sumℤ-pos (suc n) f = rw (sumℤ-pos n (λ i. f (suc i)))
+
+pub sumBelow-mul : (n c : ℕ) (f : ℕ → ℕ) → sumBelow n (λ i. c * f i) ≡ c * sumBelow n f
+unfolding sumBelow
+sumBelow-mul zero c f = omega arith
+sumBelow-mul (suc n) c f =
+    rw (sumBelow-mul n c (λ i. f (suc i))) (sym (mul-add c (f zero) (sumBelow n (λ i. f (suc i)))))
+
+pub sumℤ-shift : (n c : ℕ) (f g : ℕ → ℤ) → ((i : ℕ) → i < n → f i ≡ pos c +ℤ g i) → sumℤ n f ≡ pos (n * c) +ℤ sumℤ n g
+unfolding sumℤ
+sumℤ-shift zero c f g e = ap pos (omega arith)
+sumℤ-shift (suc n) c f g e =
+    let rest = sumℤ-shift n c (λ i. f (suc i)) (λ i. g (suc i)) (λ i h. e (suc i) (suc-le-suc h)) in
+    rw (e zero (suc-le-suc zero-le), rest)
+    (+ℤ-swap (pos c) (g zero) (pos (n * c)) (sumℤ n (λ i. g (suc i)))
+    ∙ ap (λ (t : ℕ). pos t +ℤ (g zero +ℤ sumℤ n (λ i. g (suc i)))) (omega (arith, suc-mul n c)))
+
+-- summands a natural number below the constant
+pub sumℤ-less : (n c : ℕ) (f : ℕ → ℤ) (d : ℕ → ℕ) → ((i : ℕ) → i < n → f i ≡ pos c -ℤ pos (d i)) →
+    sumℤ n f ≡ pos (n * c) -ℤ pos (sumBelow n d)
+sumℤ-less n c f d e =
+    sumℤ-shift n c f (λ i. negℤ (pos (d i))) e
+    ∙ ap (λ z. pos (n * c) +ℤ z) (sym (sumℤ-neg n (λ i. pos (d i))) ∙ ap negℤ (sumℤ-pos n d))
+
+pub sumBelow-pairs : (n c : ℕ) (f g : ℕ → ℕ) → ((i : ℕ) → i < n → f i + g i ≡ c) → sumBelow n f + sumBelow n g ≡ n * c
+unfolding sumBelow
+sumBelow-pairs zero c f g e = omega arith
+sumBelow-pairs (suc n) c f g e =
+    let rest = sumBelow-pairs n c (λ i. f (suc i)) (λ i. g (suc i)) (λ i h. e (suc i) (suc-le-suc h)) in
+    omega (arith, e zero (suc-le-suc zero-le), rest, suc-mul n c)
+
+pub shift-back : (a b : ℕ) (z : ℤ) → pos a ≡ pos b +ℤ z → z ≡ pos a -ℤ pos b
+shift-back a b z e = rw (e, +ℤ-comm (pos b) z) (sym (+ℤ-negℤ-cancel z (pos b)))
+
+leZ-cond : (s t : Bool) (a b c : ℕ) → ltb a c ≡ s → ltb b c ≡ t → a ≤ b →
+    T (leZ (cond s (negsuc (c - suc a)) (pos (a - c))) (cond t (negsuc (c - suc b)) (pos (b - c))))
+leZ-cond true true a b c p q l = le→leb (c - suc b) (c - suc a) (omega arith)
+leZ-cond true false a b c p q l = tt
+leZ-cond false true a b c p q l = absurd (omega (arith, ltb-false a c p, ltb-true b c q))
+leZ-cond false false a b c p q l = le→leb (a - c) (b - c) (omega arith)
+
+-- the constant is taken away
+leZ-less : (a b c : ℕ) → a ≤ b → T (leZ (pos a -ℤ pos c) (pos b -ℤ pos c))
+leZ-less a b zero l = le→leb (a + 0) (b + 0) (omega arith)
+leZ-less a b (suc c) l = leZ-cond (ltb a (suc c)) (ltb b (suc c)) a b (suc c) refl refl l
+
+module _ (a b c : ℕ) (x y : ℤ) (p : pos a ≡ pos c +ℤ x) (q : pos b ≡ pos c +ℤ y) where
+  pub shift-equal : (x ≡ y) ↔ (a ≡ b)
+  shift-equal = (
+    λ e. ap natAbs (p ∙ ap (λ z. pos c +ℤ z) e ∙ sym q),
+    λ e. shift-back a c x p ∙ ap (λ (t : ℕ). pos t -ℤ pos c) e ∙ sym (shift-back b c y q),
+  )
+
+  pub shift-le : a ≤ b → T (leZ x y)
+  shift-le l = rw (shift-back a c x p, shift-back b c y q) (leZ-less a b c l)

@@ -1,0 +1,58 @@
+-- `tones::lowered` meets its contract: a number below 65,536 less 32,768 fits 16 bits.
+-- Assumes nothing.
+use Prim.Native.Nat.{ℕ, suc, _-_, _<_}
+use native.Mathlib.Omega.{arith}
+use mathlib.Core.Path.{_≡_}
+use mathlib.Core.Bool.{Bool, true, false, cond}
+use lib.Dec.{ltb}
+use lib.IntN.{ℤ, pos, negsuc, _-ℤ_}
+use lib.Signed.{mag}
+use mir.Syntax.{w16, w32}
+use mir.Val.{SFits, toZ}
+use mir.ValLaws.{toZ-ofZ}
+use borrow.Author.Needs.{needs}
+use Rattle.tones.proofs.lowered.Statement.{statement}
+use Rattle.tones.proofs.lowered.Tie as tie
+
+-- a difference is one of two numbers, and both are small
+by-test : (c : Bool) (x y : ℤ) (w : ℕ) → mag x < w → mag y < w → mag (cond c x y) < w
+by-test true x y w p q = p
+by-test false x y w p q = q
+
+less : (v : ℕ) → v < 65536 → mag (pos v -ℤ pos 32768) < 32768
+less v p = by-test (ltb v 32768) (negsuc (32768 - suc v)) (pos (v - 32768)) 32768 (omega arith) (omega arith)
+
+-- a small number is read as itself
+read : (v : ℕ) → v < 65536 → toZ w32 v ≡ pos v
+read v p = toZ-ofZ w32 (pos v) (record { sfits = omega arith })
+
+fits-32 : (v : ℕ) → v < 65536 → SFits w32 (pos v -ℤ pos 32768)
+fits-32 v p = record { sfits = omega (arith, less v p) }
+
+fits-16 : (v : ℕ) → v < 65536 → SFits w16 (pos v -ℤ pos 32768)
+fits-16 v p = record { sfits = omega (arith, less v p) }
+
+below : (c : tie.Else1) → c .before .args .value < 65536
+below c = omega (arith, c .if1 .left)
+
+returns : tie.Need-returns
+returns c = search needs
+
+cast-result : tie.Need-cast-result
+cast-result c = search needs
+
+sub-result : tie.Need-sub-result
+sub-result c =
+    let v = c .before .args .value in
+    rw (read v (below c)) (fits-32 v (below c))
+
+cast-result-2 : tie.Need-cast-result-2
+cast-result-2 c =
+    let v = c .before .args .value in
+    rw (read v (below c), toZ-ofZ w32 (pos v -ℤ pos 32768) (fits-32 v (below c))) (fits-16 v (below c))
+
+returns-2 : tie.Need-returns-2
+returns-2 c = search needs
+
+pub lowered-spec : {M : Type 1} → statement M
+lowered-spec = tie.close (tie.spec returns cast-result sub-result cast-result-2 returns-2)

@@ -1,0 +1,35 @@
+-- `tones::moved` meets its contract: the sum of a raised value and of what is drawn is far below 64 bits.
+-- Assumes nothing.
+use Prim.Native.Nat.{_+_, _*_, _/_}
+use native.Mathlib.Nat.{mod-lt}
+use native.Mathlib.Omega.{arith}
+use borrow.Author.Needs.{needs}
+use Rattle.tones.proofs.moved.Statement.{statement}
+use Rattle.tones.proofs.moved.Tie as tie
+
+bounded-requires : tie.Need-bounded-requires
+bounded-requires c κs = search needs
+
+mul-sum : tie.Need-mul-sum
+mul-sum c = search needs
+
+add-sum : tie.Need-add-sum
+add-sum c = search needs
+
+rem-sum : tie.Need-rem-sum
+rem-sum c = search needs
+
+add-sum-2 : tie.Need-add-sum-2
+add-sum-2 c =
+    let n = 2 * c .bounded .result + 1 in
+    omega (arith, c .before .pre, c .bounded .ensures, mod-lt (c .before .args .seed / 1024) {m = n} (omega arith))
+
+returns : tie.Need-returns
+returns c = search needs
+
+returns-2 : tie.Need-returns-2
+returns-2 c = search needs
+
+pub moved-spec : {M : Type 1} → statement M
+moved-spec =
+    tie.close (tie.spec bounded-requires mul-sum add-sum rem-sum add-sum-2 returns returns-2)

@@ -1,0 +1,10 @@
+-- Laws of gains and totals.
+pub mod Runs
+pub mod Linear
+pub mod Words
+pub mod Stages
+pub mod Totals
+pub mod Tables
+pub mod SoftTotals
+pub mod HardTotals
+pub mod Answers
