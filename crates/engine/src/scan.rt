@@ -55,7 +55,7 @@ fn passes(q: usize, w: usize, c: usize, second: u32, table: &[u32]) -> bool
     while s < q {
         let a = even_run(w, s);
         let b = odd_run(w, wrap(q, s + c));
-        if second < greatest(w, a, b, table) {
+        if reaches(w, a, b, second, table) {
             return true;
         }
         s += 1;
@@ -63,26 +63,27 @@ fn passes(q: usize, w: usize, c: usize, second: u32, table: &[u32]) -> bool
     false
 }
 
-// The greatest sum of the runs that begin at a and at b, number by number.
-fn greatest(w: usize, a: usize, b: usize, table: &[u32]) -> u32
+// Whether a sum of the runs that begin at a and at b, number by number, passes the second best. All of them are looked
+// at, so that the compiler can look at several at once.
+fn reaches(w: usize, a: usize, b: usize, second: u32, table: &[u32]) -> bool
     requires { ⌜ (a + w ≤ length (now table)) × (b + w ≤ length (now table)) ⌝ }
     requires { ⌜ ((i j : ℕ) → getD (now table) i 0 + getD (now table) j 0 ≤ mostTotal) ⌝ }
-    ensures { λ r. ⌜ ((i : ℕ) → i < w
-        → getD (now (table .entry)) (a + i) 0 + getD (now (table .entry)) (b + i) 0 ≤ r) ⌝ }
+    ensures { λ r. ⌜ (r ≡ false → (i : ℕ) → i < w
+        → getD (now (table .entry)) (a + i) 0 + getD (now (table .entry)) (b + i) 0 ≤ second) ⌝ }
 {
-    let mut most = 0;
+    let mut found = false;
     let mut i = 0;
     while i < w {
-        most = greater(most, sum(table, a + i, b + i));
+        found = or_above(found, sum(table, a + i, b + i), second);
         i += 1;
     }
-    most
+    found
 }
 
-fn greater(a: u32, b: u32) -> u32
-    ensures { λ r. ⌜ (a ≤ r) × (b ≤ r) ⌝ }
+fn or_above(found: bool, value: u32, second: u32) -> bool
+    ensures { λ r. ⌜ (r ≡ false → (found ≡ false) × (value ≤ second)) ⌝ }
 {
-    if a < b { b } else { a }
+    if second < value { true } else { found }
 }
 
 // The same, label after label.

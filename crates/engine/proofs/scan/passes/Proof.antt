@@ -1,4 +1,4 @@
--- `engine::scan::passes` meets its contract: where the greatest sum of no two runs passes the second best, no sum does.
+-- `engine::scan::passes` meets its contract: where no two runs reach above the second best, no sum does.
 -- Invariant: no sum of the symbols before s passes it. Measure: the symbols left.
 -- Assumes nothing.
 use Prim.Native.Nat.{ℕ, _+_, _-_, _*_, _≤_, _<_}
@@ -15,7 +15,6 @@ use Rattle.engine.proofs.scan.passes.Statement.{statement}
 use Rattle.engine.proofs.scan.passes.Tie as tie
 use Rattle.engine.proofs.scan.passes.Reads as reads
 use Rattle.engine.proofs.scan.passes.Lts as lts
-use Rattle.engine.proofs.scan.greatest.Reads as greatest-reads
 use Rattle.engine.proofs.stages.even_run.Reads as even-run-reads
 use Rattle.engine.proofs.stages.odd_run.Reads as odd-run-reads
 use Rattle.engine.proofs.wrap.Reads as wrap-reads
@@ -46,17 +45,19 @@ second c =
     let l = mod-lt (in-loop .before .loop .s + start in-loop .args .c) (p .symbols) in
     runs-within p (c .wrap .result) (omega (arith, c .wrap .ensures, l))
 
--- no sum of the two runs is above the greatest
-low : (c : tie.After-greatest Inv-loop μ-loop) → let in-loop = c .before .before .before .before in
+-- no sum of the two runs passes it
+low : (c : tie.Else1 Inv-loop μ-loop) → let in-loop = c .before .before .before .before .before in
     let args = start in-loop .args in
     (i : ℕ) → i < args .w →
-    pairAt (args .q) 1 (args .w) (now (args .table)) (in-loop .before .loop .s) (args .c) i ≤ c .greatest .result
+    pairAt (args .q) 1 (args .w) (now (args .table)) (in-loop .before .loop .s) (args .c) i ≤ args .second
 low c i l =
-    let wrapped = c .before .before in
+    let reached = c .before in
+    let wrapped = reached .before .before in
     let in-loop = wrapped .before .before in
     let args = start in-loop .args in
     pair-below (args .q) (args .w) (now (args .table)) (in-loop .before .loop .s) (args .c) i _ _ _ _
-    (wrapped .before .even-run .ensures) (wrapped .wrap .ensures) (c .before .odd-run .ensures) (c .greatest .ensures i l)
+    (wrapped .before .even-run .ensures) (wrapped .wrap .ensures) (reached .before .odd-run .ensures)
+    (reached .reaches .ensures (c .if1 .left) i l)
 
 even-run-requires : tie.Need-even-run-requires Inv-loop μ-loop
 even-run-requires c κs = (start c .pre .0 .run, omega (arith, first c))
@@ -72,8 +73,8 @@ wrap-requires c κs = omega (arith, c .before .loop-test .taken, start (c .befor
 odd-run-requires : tie.Need-odd-run-requires Inv-loop μ-loop
 odd-run-requires c κs = (start (c .before .before) .pre .0 .run, omega (arith, second c))
 
-greatest-requires : tie.Need-greatest-requires Inv-loop μ-loop
-greatest-requires c κs =
+reaches-requires : tie.Need-reaches-requires Inv-loop μ-loop
+reaches-requires c κs =
     let wrapped = c .before in
     let evened = wrapped .before in (
       (
@@ -94,13 +95,13 @@ loop-less c = omega arith
 
 loop-again : tie.Need-loop-again Inv-loop μ-loop
 loop-again c =
-    let found = c .before in
-    let in-loop = found .before .before .before .before in
+    let in-loop = c .before .before .before .before .before in
     let at = in-loop .before .loop in
     let args = start in-loop .args in (
       omega (arith, in-loop .loop-test .taken),
-      below-next (λ k. (i : ℕ) → i < args .w → pairAt (args .q) 1 (args .w) (now (args .table)) k (args .c) i ≤ args .second)
-          (at .s) (at .inv .1) (λ i l. omega (arith, low found i l, c .if1 .left)),
+      below-next
+          (λ k. (i : ℕ) → i < args .w → pairAt (args .q) 1 (args .w) (now (args .table)) k (args .c) i ≤ args .second)
+          (at .s) (at .inv .1) (low c),
     )
 
 returns-2 : tie.Need-returns-2 Inv-loop μ-loop
@@ -117,7 +118,7 @@ passes-spec =
     add-wrap
     wrap-requires
     odd-run-requires
-    greatest-requires
+    reaches-requires
     returns
     add-s
     loop-less

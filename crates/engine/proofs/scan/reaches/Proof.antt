@@ -1,27 +1,30 @@
--- `engine::scan::greatest` meets its contract: the greatest so far is at least each sum gone through.
--- Invariant: no sum before i is above the greatest so far. Measure: the numbers left.
+-- `engine::scan::reaches` meets its contract: where nothing was found, no sum gone through passes the second best.
+-- Invariant: where nothing was found, no sum before i passes it. Measure: the numbers left.
 -- Assumes nothing.
 use Prim.Native.Nat.{ℕ, _+_, _-_, _≤_, _<_}
 use native.Mathlib.Nat.{not-suc-le-zero}
 use native.Mathlib.Omega.{arith}
+use mathlib.Core.Path.{_≡_}
+use mathlib.Core.Bool.{false}
 use lib.ListN.{getD}
 use denote.Ref.{now}
 use Rattle.range.proofs.Tests.{below-next}
-use Rattle.engine.proofs.scan.greatest.Statement.{statement}
-use Rattle.engine.proofs.scan.greatest.Tie as tie
-use Rattle.engine.proofs.scan.greatest.Reads as reads
-use Rattle.engine.proofs.scan.greatest.Lts as lts
-use Rattle.engine.proofs.scan.greater.Reads as greater-reads
+use Rattle.engine.proofs.scan.reaches.Statement.{statement}
+use Rattle.engine.proofs.scan.reaches.Tie as tie
+use Rattle.engine.proofs.scan.reaches.Reads as reads
+use Rattle.engine.proofs.scan.reaches.Lts as lts
+use Rattle.engine.proofs.scan.or_above.Reads as or-above-reads
 use Rattle.engine.proofs.stages.sum.Reads as sum-reads
 
 abbrev Inv-loop : tie.InvT-loop
-Inv-loop w a b table most₀ i₀ most i = (i ≤ w) × ((j : ℕ) → j < i → getD table (a + j) 0 + getD table (b + j) 0 ≤ most)
+Inv-loop w a b second table found₀ i₀ found i = 
+    (i ≤ w) × (found ≡ false → (j : ℕ) → j < i → getD table (a + j) 0 + getD table (b + j) 0 ≤ second)
 
 abbrev μ-loop : tie.MeasureT-loop
-μ-loop w a b table most₀ i₀ most i = w - i
+μ-loop w a b second table found₀ i₀ found i = w - i
 
 loop-holds : tie.Need-loop-holds Inv-loop μ-loop
-loop-holds c = (omega arith, λ j l. absurd (not-suc-le-zero l))
+loop-holds c = (omega arith, λ _ j l. absurd (not-suc-le-zero l))
 
 add-sum : tie.Need-add-sum Inv-loop μ-loop
 add-sum c = omega (arith, c .loop-test .taken, c .before .before .before .pre .0 .0)
@@ -36,8 +39,8 @@ sum-requires c κs =
       pre .1 _ _,
     )
 
-greater-requires : tie.Need-greater-requires Inv-loop μ-loop
-greater-requires c κs = tt
+or-above-requires : tie.Need-or-above-requires Inv-loop μ-loop
+or-above-requires c κs = tt
 
 add-i : tie.Need-add-i Inv-loop μ-loop
 add-i c = omega arith
@@ -53,16 +56,15 @@ loop-again c =
     let args = in-loop .before .before .before .args in
     let xs = now (args .table) in (
       omega (arith, in-loop .loop-test .taken),
-      below-next (λ j. getD xs (args .a + j) 0 + getD xs (args .b + j) 0 ≤ c .greater .result) (at .i)
-          (λ j l. omega (arith, at .inv .1 j l, c .greater .ensures .0))
-          (omega (arith, summed .sum .ensures, c .greater .ensures .1)),
+      (λ e. below-next (λ j. getD xs (args .a + j) 0 + getD xs (args .b + j) 0 ≤ args .second) (at .i)
+          (at .inv .1 (c .or-above .ensures e .0)) (omega (arith, summed .sum .ensures, c .or-above .ensures e .1))),
     )
 
 returns : tie.Need-returns Inv-loop μ-loop
-returns c = λ i l. c .before .loop .inv .1 i (omega (arith, c .loop-test .left))
+returns c = λ e i l. c .before .loop .inv .1 e i (omega (arith, c .loop-test .left))
 
-pub greatest-spec : {M : Type 1} → statement M
-greatest-spec =
+pub reaches-spec : {M : Type 1} → statement M
+reaches-spec =
     tie.close
     (tie.spec
     Inv-loop
@@ -71,7 +73,7 @@ greatest-spec =
     add-sum
     add-sum-2
     sum-requires
-    greater-requires
+    or-above-requires
     add-i
     loop-less
     loop-again
