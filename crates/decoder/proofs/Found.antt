@@ -7,7 +7,7 @@ use native.Mathlib.Nat.{mul-le-mul, le-refl}
 use native.Mathlib.Decide.{decLt}
 use native.Mathlib.Omega.{arith}
 use mathlib.Core.Path.{_≡_, sym, _∙_, ap, subst}
-use mathlib.Core.Bool.{Bool, true}
+use mathlib.Core.Bool.{true}
 use mathlib.Core.List.{List}
 use lib.Dec.{leb, lit≤}
 use lib.IntN.{ℤ, pos, _-ℤ_}
@@ -15,18 +15,17 @@ use lib.ListN.{length, getD, List·getD-eq-default}
 use lib.Pow.{pow-mono}
 use lib.Signed.{mag}
 use borrow.Author.Tests.{le-leb}
-use Rattle.range.specs.Below.{listBelow}
 use Rattle.range.specs.Signed.{entry}
 use Rattle.range.proofs.Lists.{length-listBelow, listBelow-at}
 use Rattle.range.proofs.Sums.{sumBelow-le}
 use Rattle.range.proofs.Tests.{allBelow-of}
 use Rattle.rules.specs.Shape.{inShape, phases, halfTurn, carriers, greatestM, messages}
 use Rattle.rules.specs.Label.{labels, labelOf, messageOf}
-use Rattle.rules.specs.Word.{wordAt, symbolAt}
+use Rattle.rules.specs.Word.{symbolAt}
 use Rattle.rules.specs.Best.{Best}
 use Rattle.rules.specs.Outcome.{allowed}
 use Rattle.rules.specs.Refusal.{softRefusal, hardRefusal}
-use Rattle.rules.proofs.Range.{InRange, inShape-range}
+use Rattle.rules.proofs.Range.{inShape-range}
 use Rattle.rules.proofs.Silence.{labels-two}
 use Rattle.words.proofs.Labels.{labelOf-messageOf, messageOf-lt}
 use Rattle.totals.specs.Totals.{totalOf}
@@ -35,7 +34,7 @@ use Rattle.totals.proofs.SoftTotals.{softGain-le}
 use Rattle.totals.proofs.HardTotals.{hardGain-le}
 use Rattle.totals.proofs.Answers.{soft-greatest, hard-nearest}
 use Rattle.standing.specs.declared.Standing.{Standing}
-use Rattle.standing.specs.Lead.{lead, tiedOf}
+use Rattle.standing.specs.Lead.{tiedOf}
 use Rattle.standing.proofs.Leading.{lead-best}
 use Rattle.engine.specs.Search.{mostGain, accepts, searched}
 use Rattle.engine.proofs.Accepting.{accepts-small, searched-is}

@@ -5,9 +5,8 @@ use Prim.Native.Nat.{ℕ, _+_, _-_, _*_, _^_, _≤_, _<_}
 use native.Mathlib.Nat.{mul-comm}
 use native.Mathlib.Omega.{arith}
 use mathlib.Core.Path.{_≡_, sym, _∙_}
-use mathlib.Core.Bool.{true, not}
+use mathlib.Core.Bool.{true}
 use mathlib.Core.List.{List, []}
-use lib.Dec.{eqb}
 use lib.IntN.{ℤ}
 use lib.ListN.{length}
 use lib.Pow.{pow-add, pow-mono}
@@ -18,7 +17,7 @@ use Rattle.rules.specs.Soft.{softLength}
 use Rattle.rules.specs.Outcome.{allowed, refuse, refuseAt}
 use Rattle.rules.specs.Table.{badShape, badLength, badSymbol, octary}
 use Rattle.rules.specs.Refusal.{softRefusal, hardRefusal}
-use Rattle.rules.proofs.Range.{InRange, inShape-range}
+use Rattle.rules.proofs.Range.{inShape-range}
 use Rattle.rules.proofs.OutcomeLaws.{refuse-gives, refuseAt-gives}
 use Rattle.shape.proofs.SymbolLaws.{firstBad-none}
 use Rattle.signals.proofs.Clean.{softLength-half}

@@ -1,7 +1,7 @@
 // Soft and hard decoding for two and four phases: document 01 "What the receiver hears".
 // Each call turns what it received into a table of gains, natural numbers that are greater where a symbol fits better
-// (totals, specs/Gains.antt), and has the engine find the label of greatest total. Nothing is negated, and a soft value is
-// widened before anything is added to it. Equals go to the earliest label. Contracts cite specs/Told.antt.
+// (totals, specs/Gains.antt), and has the engine find the label of greatest total. Nothing is negated, and a soft value
+// is widened before anything is added to it. Equals go to the earliest label. Contracts cite specs/Told.antt.
 use kinds::MessageNumber;
 use kinds::Refusal;
 use kinds::Search;
@@ -54,8 +54,9 @@ pub enum Matched {
     Refused(Refusal),
 }
 
-// The message of greatest correlation with the values, its correlation, and whether another word has it too. Refuses 1 a
-// shape out of range, 6 eight phases, 2 values that are not N for two phases and 2N for four. The values are only read.
+// The message of greatest correlation with the values, its correlation, and whether another word has it too. Refuses 1
+// a shape out of range, 6 eight phases, 2 values that are not N for two phases and 2N for four. The values are only
+// read.
 pub fn soft(h: u32, m: u32, values: &[i16]) -> Heard
     ensures { λ r. ⌜ Hears h m (now (values .entry)) r ⌝ }
     ensures { λ _. ⌜ now (values .exit) ≡ now (values .entry) ⌝ }

@@ -2,11 +2,11 @@
 -- numbers stay small; what the last stage may be given, and what it answers; what one stage may be given, what the
 -- stages after it may be given, and what they answer.
 -- Not here: where the runs of one table lie (RunLaws).  Assumes nothing.
-use Prim.Native.Nat.{ℕ, zero, suc, _+_, _-_, _*_, _/_, _^_, _≤_, _<_}
-use native.Mathlib.Nat.{mul-le-mul, mul-one, one-mul, pow-zero, pow-suc, pow-succ', pow-le-pow-left, le-refl, one-le-pow}
+use Prim.Native.Nat.{ℕ, suc, _+_, _-_, _*_, _/_, _^_, _≤_, _<_}
+use native.Mathlib.Nat.{mul-le-mul, mul-one, pow-zero, pow-succ', pow-le-pow-left, le-refl, one-le-pow}
 use native.Mathlib.Decide.{decLt}
 use native.Mathlib.Omega.{arith}
-use mathlib.Core.Path.{_≡_, refl, sym, _∙_, ap, subst}
+use mathlib.Core.Path.{_≡_, sym, _∙_, ap, subst}
 use mathlib.Core.List.{List}
 use lib.Dec.{lit<}
 use lib.ListN.{length, getD, take, List·getD-eq-default}

@@ -6,7 +6,7 @@ use native.Mathlib.Nat.{one-mul, mul-le-mul, le-refl, pow-suc, pow-succ', pow-le
 use native.Mathlib.Decide.{decLt}
 use native.Mathlib.Numerals.{add-one}
 use native.Mathlib.Omega.{arith}
-use mathlib.Core.Path.{_≡_, refl, sym, _∙_, ap, subst}
+use mathlib.Core.Path.{_≡_, sym, _∙_, ap}
 use mathlib.Core.List.{List}
 use lib.Dec.{lit<, lit≤}
 use lib.ListN.{length, getD, take, List·getD-eq-default}

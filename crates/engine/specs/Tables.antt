@@ -4,10 +4,10 @@
 --           Runs q half w xs      xs may be read by a stage: 2 q half runs of w numbers, each so small that the stages
 --                                 that follow stay within mostTotal
 --           Turning q w g         gains g, in q runs as long as the word w, may be turned by w
---           Climbing d q half w l xs ys    d stages and the last may follow from a table at the front of the area xs, and
---                                 go to and fro between xs and ys; the labels are counted from l
+--           Climbing d q half w l xs ys    d stages and the last may follow from a table at the front of the area xs,
+--                                 and go to and fro between xs and ys; the labels are counted from l
 --           tableIn q half w xs   the table at the front of the area xs
---           Areas m w xs ys       the areas have room for a word, and for the tables of every path of two or four phases
+--           Areas m w xs ys       the areas have room for a word, and for the tables of two or four phases
 --           Paths h m q half size uses g w xs ys    all paths may be searched with the gains g, by way of the areas w
 --                                 for a word, and xs and ys for tables
 --           Path h m q half l g w xs ys    the labels of the path whose first label is l may be searched so

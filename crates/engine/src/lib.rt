@@ -1,6 +1,6 @@
-// The engine of the decoders: which label has the greatest total of gains. Natural numbers alone, so nothing is negated.
-// For each path the gains with the path's own word put in are the first table, and each stage takes in one digit of the
-// places with all values of its coefficient, until there is a number for each label, its total (totals,
+// The engine of the decoders: which label has the greatest total of gains. All numbers are natural, so nothing is
+// negated. For each path the gains with the path's own word put in are the first table, and each stage takes in one
+// digit of the places with all values of its coefficient, until there is a number for each label, its total (totals,
 // specs/Climb.antt and Totals.antt). The labels are gone through in their order, path after path, and the best and the
 // second best are kept (standing). Contracts cite specs/Search.antt, and for the steps specs/Tables.antt.
 mod scan;
@@ -33,9 +33,9 @@ const AREA: usize = 2 << (GREATEST_DECODED * GREATEST_M);
 // The greatest gain that is taken.
 const MOST_GAIN: u32 = 1 << 25;
 
-// The standing after all labels of the shape, by the totals of their words in a table of gains: for each symbol N gains,
-// one for each place. Nobody leads where the shape is not of two or four phases, the table is not 2^h N long, or a gain is
-// above the greatest.
+// The standing after all labels of the shape, by the totals of their words in a table of gains: for each symbol N
+// gains, one for each place. Nobody leads where the shape is not of two or four phases, the table is not 2^h N long, or
+// a gain is above the greatest.
 pub fn search(h: u32, m: u32, gains: &[u32]) -> Standing
     ensures { λ r. ⌜ r ≡ searched h m (now (gains .entry)) ⌝ }
 {
@@ -149,7 +149,8 @@ fn climb(
 ) -> Standing
     requires { ⌜ Climbing d q half w first (now x) (now y) ⌝ }
     ensures { λ r. ⌜ r ≡ leadFrom first
-        (byLabel q (w * q ^ suc d) (climbs q (suc d) w (tableIn q half w (now (x .entry))))) (w * q ^ suc d * q) before ⌝ }
+        (byLabel q (w * q ^ suc d) (climbs q (suc d) w (tableIn q half w (now (x .entry)))))
+        (w * q ^ suc d * q) before ⌝ }
 {
     if d == 0 {
         return finish(q, w, first, x, before);
@@ -195,7 +196,8 @@ fn path(
     before: Standing,
 ) -> Standing
     requires { ⌜ Path h m q half first (now gains) (now word) (now x) (now y) ⌝ }
-    ensures { λ r. ⌜ r ≡ leadFrom first (λ j. totalOf h m (now (gains .entry)) (first + j)) (phases h ^ (m + 1)) before ⌝ }
+    ensures { λ r. ⌜ r ≡ leadFrom first (λ j. totalOf h m (now (gains .entry)) (first + j))
+        (phases h ^ (m + 1)) before ⌝ }
 {
     own_word(h, m, first, word);
     begin(q, word, gains, x);

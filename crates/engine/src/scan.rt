@@ -18,7 +18,8 @@ ghost use Rattle.engine.specs.Tables.{Runs, mostTotal};
 pub(super) fn last(q: usize, w: usize, first: u64, table: &[u32], before: Standing) -> Standing
     requires { ⌜ Runs q 1 w (now table) ⌝ }
     requires { ⌜ first + q * (w * q) ≤ 2 ^ 32 ⌝ }
-    ensures { λ r. ⌜ r ≡ leadFrom first (byLabel q (w * q) (climbed q 1 w (now (table .entry)))) (q * (w * q)) before ⌝ }
+    ensures { λ r. ⌜ r ≡ leadFrom first (byLabel q (w * q) (climbed q 1 w (now (table .entry))))
+        (q * (w * q)) before ⌝ }
 {
     let step = w * q;
     let mut st = before;

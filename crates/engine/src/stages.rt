@@ -51,7 +51,8 @@ fn pass(q: usize, half: usize, w: usize, from: &[u32], to: &mut [u32])
 fn fan(q: usize, half: usize, w: usize, t: usize, o: usize, from: &[u32], to: &mut [u32])
     requires { ⌜ Runs q half w (now from) ⌝ }
     requires { ⌜ (t < q * half) × (o ≡ t * q * w) × (length (now to) ≡ q * half * q * w) ⌝ }
-    ensures { λ _. ⌜ Written (climbedAt q half w (now (from .entry))) (now (to .entry)) o (now (to .exit)) (o + q * w) ⌝ }
+    ensures { λ _. ⌜ Written (climbedAt q half w (now (from .entry))) (now (to .entry)) o (now (to .exit))
+        (o + q * w) ⌝ }
 {
     let n = q * half;
     let a = even_run(w, t);

@@ -1,5 +1,5 @@
--- Laws of sumBelow and countBelow. In order: one more summand at the end; two parts; equal summands; zeros, all or all but one;
--- a bound; the same of counts; one turn of a loop that adds up; what lies below the whole sum.
+-- Laws of sumBelow and countBelow. In order: one more summand at the end; two parts; equal summands; zeros, all or all
+-- but one; a bound; the same of counts; one turn of a loop that adds up; what lies below the whole sum.
 -- Not here: tests and searches (Tests), lists (Lists).  Assumes nothing.
 use Prim.Native.Nat.{ℕ, zero, suc, _+_, _*_, _≤_, _<_, zero-le, suc-le-suc}
 use native.Mathlib.Nat.{zero-add, add-zero, suc-add, le-refl, suc-mul, not-suc-le-zero, le-of-suc-le-suc}

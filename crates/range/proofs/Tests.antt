@@ -1,6 +1,6 @@
 -- Laws of tests, and of allBelow and firstBelow. In order: below and at least; both sides of a conjunction, and of a
--- disjunction that fails; a test not passed; a claim about all below n, one more; all, from each place, at each place, refuted; the first, found, not found,
--- and back.
+-- disjunction that fails; a test not passed; a claim about all below n, one more; all, from each place, at each place,
+-- refuted; the first, found, not found, and back.
 -- Not here: sums and counts (Sums), lists (Lists).  Assumes nothing.
 use Prim.Native.Nat.{ℕ, zero, suc, _+_, _<_, zero-le, suc-le-suc}
 use native.Mathlib.Nat.{not-suc-le-zero, le-of-suc-le-suc}

@@ -2,7 +2,7 @@
 -- the first label; one more label, in the three cases of better; after all of them;
 -- the standing is rules' Best, so that going through the labels in their order is enough.
 -- Not here: stretches of labels (Lead).  Assumes nothing.
-use Prim.Native.Nat.{ℕ, zero, suc, _+_, _≤_, _<_, zero-le}
+use Prim.Native.Nat.{ℕ, zero, suc, _≤_, _<_, zero-le}
 use native.Mathlib.Nat.{zero-add, le-refl, not-suc-le-zero}
 use native.Mathlib.Decide.{decLe, ℕ-discrete}
 use native.Mathlib.Omega.{arith}
@@ -50,7 +50,8 @@ module _ (n : ℕ) (f : ℕ → ℕ) (st : Standing) (p : Leading n f st) where
     attained = p .attained;
     most = below-suc (λ k. f k ≤ st .best) n (p .most) b;
     earliest = p .earliest;
-    others = below-suc (λ k. k ≢ st .label → f k ≤ f n) n (λ k l d. omega (arith, p .others k l d)) (λ _. le-refl (f n));
+    others = below-suc (λ k. k ≢ st .label → f k ≤ f n) n (λ k l d. omega (arith, p .others k l d))
+        (λ _. le-refl (f n));
     ordered = b;
     runner = inr (n, le-refl (suc n), (λ e. omega (arith, p .inside)), refl);
   }

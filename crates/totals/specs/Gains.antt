@@ -1,4 +1,5 @@
--- The gains of soft values and of symbols, for two and four phases: natural numbers, greater where a symbol fits better.
+-- The gains of soft values and of symbols, for two and four phases: natural numbers, greater where a symbol fits
+-- better.
 -- Defines:  loudest            the size of the least sixteen-bit number
 --           raised z           z + 32,768, for a sixteen-bit number z
 --           softGain h ys i s  32,768 plus what symbol s adds to the correlation at place i

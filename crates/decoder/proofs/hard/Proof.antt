@@ -9,7 +9,7 @@ use lib.Seq.{length-take-le}
 use denote.Ref.{now}
 use borrow.Author.Needs.{needs}
 use borrow.Author.Tests.{not-true, not-false}
-use Rattle.rules.specs.Shape.{inShape, phases, carriers, greatestM}
+use Rattle.rules.specs.Shape.{inShape, carriers, greatestM}
 use Rattle.rules.specs.Outcome.{allowed}
 use Rattle.rules.specs.Table.{badSymbol, firstBad}
 use Rattle.rules.specs.Refusal.{hardRefusal}

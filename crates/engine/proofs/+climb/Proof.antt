@@ -1,7 +1,7 @@
 -- `engine::climb` meets its contract: the last stage where no other is left, else one stage, and the others from there.
 -- Measure: the stages left.
 -- Assumes nothing.
-use Prim.Native.Nat.{ℕ, suc, _-_, _*_, _^_, _<_}
+use Prim.Native.Nat.{ℕ, suc, _-_, _<_}
 use native.Mathlib.Omega.{arith}
 use mathlib.Core.Path.{_≡_, refl, sym, _∙_, subst}
 use denote.Ref.{now}

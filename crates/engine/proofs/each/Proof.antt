@@ -15,9 +15,6 @@ use Rattle.engine.proofs.RunLaws.{times-within}
 use Rattle.engine.proofs.PathLaws.{labels-le, all-labels, paths-path}
 use Rattle.engine.proofs.each.Statement.{statement}
 use Rattle.engine.proofs.each.Tie as tie
-use Rattle.engine.proofs.each.Reads as reads
-use Rattle.engine.proofs.each.Lts as lts
-use Rattle.engine.proofs.path.Reads as path-reads
 
 abbrev Inv-loop : tie.InvT-loop
 Inv-loop h m q half size uses gains word₀ x₀ y₀ st₀ first₀ n₀ word x y st first n =

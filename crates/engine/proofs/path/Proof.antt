@@ -1,7 +1,6 @@
 -- `engine::path` meets its contract: the path's own word is put into the gains, and the stages begin from there.
 -- Assumes nothing.
 use native.Mathlib.Omega.{arith}
-use mathlib.Core.Path.{_≡_}
 use denote.Ref.{now}
 use borrow.Author.Needs.{needs}
 use Rattle.rules.proofs.Range.{inShape-range}

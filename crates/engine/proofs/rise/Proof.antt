@@ -12,9 +12,6 @@ use Rattle.totals.proofs.Runs.{length-climbed}
 use Rattle.engine.proofs.RunLaws.{times-least, runs-size, front-written}
 use Rattle.engine.proofs.rise.Statement.{statement}
 use Rattle.engine.proofs.rise.Tie as tie
-use Rattle.engine.proofs.rise.Reads as reads
-use Rattle.engine.proofs.rise.Lts as lts
-use Rattle.engine.proofs.stages.stage.Reads as stage-reads
 
 number : (c : tie.After-slice-known) → let args = c .before .before .args in
     2 * (args .q * args .half) ≤ length (now (args .x))

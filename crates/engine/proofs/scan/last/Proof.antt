@@ -12,9 +12,6 @@ use Rattle.engine.proofs.RunLaws.{times-within, times-least}
 use Rattle.engine.proofs.Counting.{blocks-next}
 use Rattle.engine.proofs.scan.last.Statement.{statement}
 use Rattle.engine.proofs.scan.last.Tie as tie
-use Rattle.engine.proofs.scan.last.Reads as reads
-use Rattle.engine.proofs.scan.last.Lts as lts
-use Rattle.engine.proofs.scan.block.Reads as block-reads
 
 abbrev Inv-loop : tie.InvT-loop
 Inv-loop q w first table step st₀ label₀ c₀ st label c = (c ≤ q) × (label ≡ first + c * (w * q)) × (st ≡ leadFrom first (byLabel q (w * q) (climbed q 1 w table)) (c * (w * q)) st₀)

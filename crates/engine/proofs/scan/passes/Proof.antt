@@ -13,11 +13,6 @@ use Rattle.totals.specs.Climb.{pairAt}
 use Rattle.engine.proofs.RunLaws.{runs-within, runs-number, runs-sum, pair-below}
 use Rattle.engine.proofs.scan.passes.Statement.{statement}
 use Rattle.engine.proofs.scan.passes.Tie as tie
-use Rattle.engine.proofs.scan.passes.Reads as reads
-use Rattle.engine.proofs.scan.passes.Lts as lts
-use Rattle.engine.proofs.stages.even_run.Reads as even-run-reads
-use Rattle.engine.proofs.stages.odd_run.Reads as odd-run-reads
-use Rattle.engine.proofs.wrap.Reads as wrap-reads
 
 abbrev Inv-loop : tie.InvT-loop
 Inv-loop q w c second table s₀ s = (s ≤ q) × ((k : ℕ) → k < s → (i : ℕ) → i < w → pairAt q 1 w table k c i ≤ second)

@@ -11,13 +11,9 @@ use denote.Ref.{now}
 use Rattle.range.proofs.Tests.{below-next}
 use Rattle.engine.proofs.scan.reaches.Statement.{statement}
 use Rattle.engine.proofs.scan.reaches.Tie as tie
-use Rattle.engine.proofs.scan.reaches.Reads as reads
-use Rattle.engine.proofs.scan.reaches.Lts as lts
-use Rattle.engine.proofs.scan.or_above.Reads as or-above-reads
-use Rattle.engine.proofs.stages.sum.Reads as sum-reads
 
 abbrev Inv-loop : tie.InvT-loop
-Inv-loop w a b second table found₀ i₀ found i = 
+Inv-loop w a b second table found₀ i₀ found i =
     (i ≤ w) × (found ≡ false → (j : ℕ) → j < i → getD table (a + j) 0 + getD table (b + j) 0 ≤ second)
 
 abbrev μ-loop : tie.MeasureT-loop

@@ -9,10 +9,6 @@ use Rattle.standing.specs.Lead.{leadFrom}
 use Rattle.standing.proofs.Lead.{leadFrom-none, leadFrom-turn, leadFrom-end}
 use Rattle.engine.proofs.scan.row.Statement.{statement}
 use Rattle.engine.proofs.scan.row.Tie as tie
-use Rattle.engine.proofs.scan.row.Reads as reads
-use Rattle.engine.proofs.scan.row.Lts as lts
-use Rattle.engine.proofs.scan.value.Reads as value-reads
-use Rattle.standing.proofs.better.Reads as better-reads
 
 abbrev Inv-loop : tie.InvT-loop
 Inv-loop q w c i first table st₀ label₀ s₀ st label s = (s ≤ q) × (label ≡ first + s) × (st ≡ leadFrom first (λ k. pairAt q 1 w table k c i) s st₀)

@@ -12,9 +12,6 @@ use Rattle.engine.proofs.RunLaws.{times-within}
 use Rattle.engine.proofs.Counting.{rows-next}
 use Rattle.engine.proofs.scan.scan.Statement.{statement}
 use Rattle.engine.proofs.scan.scan.Tie as tie
-use Rattle.engine.proofs.scan.scan.Reads as reads
-use Rattle.engine.proofs.scan.scan.Lts as lts
-use Rattle.engine.proofs.scan.row.Reads as row-reads
 
 abbrev Inv-loop : tie.InvT-loop
 Inv-loop q w c first table st₀ label₀ i₀ st label i = (i ≤ w) × (label ≡ first + i * q) × (st ≡ leadFrom first (λ j. pairAt q 1 w table (j % q) c (j / q)) (i * q) st₀)

@@ -9,12 +9,6 @@ use denote.Ref.{now}
 use Rattle.engine.proofs.RunLaws.{runs-within, runs-number, runs-sum, pair-last}
 use Rattle.engine.proofs.scan.value.Statement.{statement}
 use Rattle.engine.proofs.scan.value.Tie as tie
-use Rattle.engine.proofs.scan.value.Reads as reads
-use Rattle.engine.proofs.scan.value.Lts as lts
-use Rattle.engine.proofs.stages.even_run.Reads as even-run-reads
-use Rattle.engine.proofs.stages.odd_run.Reads as odd-run-reads
-use Rattle.engine.proofs.stages.sum.Reads as sum-reads
-use Rattle.engine.proofs.wrap.Reads as wrap-reads
 
 -- the function's entry
 abbrev start : tie.After-shared-slice-known → tie.Start

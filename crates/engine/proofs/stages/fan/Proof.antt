@@ -15,12 +15,6 @@ use Rattle.engine.proofs.RunLaws.{times-within, runs-within, runs-numbe
 use Rattle.engine.proofs.RunLaws.{further-step}
 use Rattle.engine.proofs.stages.fan.Statement.{statement}
 use Rattle.engine.proofs.stages.fan.Tie as tie
-use Rattle.engine.proofs.stages.fan.Reads as reads
-use Rattle.engine.proofs.stages.fan.Lts as lts
-use Rattle.engine.proofs.stages.even_run.Reads as even-run-reads
-use Rattle.engine.proofs.stages.odd_run.Reads as odd-run-reads
-use Rattle.engine.proofs.stages.sum.Reads as sum-reads
-use Rattle.engine.proofs.wrap.Reads as wrap-reads
 
 abbrev Inv-loop2 : tie.InvT-loop2
 Inv-loop2 q half w t o from to₀ n a at b c d r₀ to r = (r ≤ w) × Written (climbedAt q half w from) to₀ at to (at + r)

@@ -10,9 +10,6 @@ use Rattle.totals.specs.Climb.{climbedAt, climbed}
 use Rattle.engine.proofs.RunLaws.{times-within, runs-number, runs-step}
 use Rattle.engine.proofs.stages.pass.Statement.{statement}
 use Rattle.engine.proofs.stages.pass.Tie as tie
-use Rattle.engine.proofs.stages.pass.Reads as reads
-use Rattle.engine.proofs.stages.pass.Lts as lts
-use Rattle.engine.proofs.stages.fan.Reads as fan-reads
 
 abbrev Inv-loop : tie.InvT-loop
 Inv-loop q half w from to₀ n step o₀ t₀ to o t = (t ≤ n) × (o ≡ t * step) × Written (climbedAt q half w from) to₀ 0 to o

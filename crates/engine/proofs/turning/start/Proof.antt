@@ -12,9 +12,6 @@ use Rattle.totals.specs.Climb.{turnedAt, turned}
 use Rattle.engine.proofs.RunLaws.{times-within}
 use Rattle.engine.proofs.turning.start.Statement.{statement}
 use Rattle.engine.proofs.turning.start.Tie as tie
-use Rattle.engine.proofs.turning.start.Reads as reads
-use Rattle.engine.proofs.turning.start.Lts as lts
-use Rattle.engine.proofs.turning.turn.Reads as turn-reads
 
 abbrev Inv-loop : tie.InvT-loop
 Inv-loop q word gains to₀ n o₀ s₀ to o s = (s ≤ q) × (o ≡ s * n) × Written (turnedAt q n word gains) to₀ 0 to o

@@ -13,10 +13,6 @@ use Rattle.totals.specs.Climb.{turnedAt}
 use Rattle.engine.proofs.RunLaws.{times-within, times-least, turnedAt-gain}
 use Rattle.engine.proofs.turning.turn.Statement.{statement}
 use Rattle.engine.proofs.turning.turn.Tie as tie
-use Rattle.engine.proofs.turning.turn.Reads as reads
-use Rattle.engine.proofs.turning.turn.Lts as lts
-use Rattle.engine.proofs.turning.index.Reads as index-reads
-use Rattle.engine.proofs.wrap.Reads as wrap-reads
 
 abbrev Inv-loop : tie.InvT-loop
 Inv-loop q s o word gains to₀ n i₀ to i = (i ≤ n) × Written (turnedAt q n word gains) to₀ o to (o + i)
