@@ -1,14 +1,13 @@
 -- Casts of signed numbers. A local holds the bits of a signed number: `ofZ` writes them and `toZ` reads them back.
 -- In order: a sixteen-bit number made wider; a whole number that is a natural one below 2^31, as a local holds it, and
--- its cast to an unsigned number; the magnitude of a difference of natural numbers.
+-- its cast to an unsigned number.
 -- Not here: what is raised and lowered (totals, SoftTotals).  Assumes nothing.
-use Prim.Native.Nat.{ℕ, zero, suc, _-_, _^_, _<_, _≤_}
+use Prim.Native.Nat.{ℕ, _^_, _<_}
 use native.Mathlib.Omega.{arith}
 use mathlib.Core.Path.{_≡_, sym, _∙_, ap, subst}
-use mathlib.Core.Bool.{Bool, true, false, cond}
-use lib.Dec.{T, ltb}
-use lib.IntN.{ℤ, pos, negsuc, natAbs, _-ℤ_}
-use lib.Signed.{nonNeg, mag}
+use lib.Dec.{T}
+use lib.IntN.{ℤ, pos, natAbs}
+use lib.Signed.{nonNeg}
 use mir.Syntax.{w16, w32}
 use mir.Val.{Fits, SFits, ofZ, toZ}
 use mir.ValLaws.{toZ-ofZ}
@@ -32,12 +31,3 @@ module _ (z : ℤ) (n : ℕ) (e : pos n ≡ z) (l : n < 2 ^ 31) where
 
   pub natural-casts : T (nonNeg (toZ w32 (ofZ w32 z))) × Fits w32 (natAbs (toZ w32 (ofZ w32 z)))
   natural-casts = rw natural-is (tt, record { fits = omega arith })
-
--- a difference of two natural numbers, the second at most w
-pub mag-difference : (a b w : ℕ) → a < w → b ≤ w → mag (pos a -ℤ pos b) < w
-mag-difference a zero w p q = omega arith
-mag-difference a (suc b) w p q = by (ltb a (suc b))
-  where
-    by : (t : Bool) → mag (cond t (negsuc (suc b - suc a)) (pos (a - suc b))) < w
-    by true = omega arith
-    by false = omega arith

@@ -1,6 +1,7 @@
 -- From a search to an answer: a table of small gains is accepted, its search gives the best total, and that is the
--- greatest correlation, or the least distance. In order: the gains of a table are small, and so are its totals; what the
--- search gives; the answer of soft decoding; the answer of hard decoding.
+-- greatest correlation, or the least distance. In order: the gains of a table are small, and so are its totals; it is
+-- accepted; what its search gives; the message that is answered; the answer of soft decoding; the answer of hard
+-- decoding.
 -- Not here: totals, correlations and distances (totals, Answers).  Assumes nothing.
 use Prim.Native.Nat.{ℕ, _-_, _*_, _^_, _≤_, _<_, zero-le}
 use native.Mathlib.Nat.{mul-le-mul, le-refl}
@@ -102,7 +103,7 @@ module _ (h m : ℕ) (ok : inShape h m ≡ true) (two : h ≤ 2) (st : Standing)
 
     pub soft-best-le : st .best ≤ 2 ^ 30
     soft-best-le =
-        omega (arith, heard .1, mul-le-mul {n₁ = carriers m} {m₁ = 2 * loudest} {n₂ = carriers greatestM} carriers-le (le-refl (2 * loudest)))
+        omega (arith, heard .1, mul-le-mul carriers-le (le-refl (2 * loudest)))
 
     pub soft-found : (a : Loudest) → softRefusal h m ys ≡ allowed → a .message .0 ≡ messageOf h m (st .label) →
         a .correlation ≡ pos (st .best) -ℤ pos (carriers m * loudest) → a .tied ≡ tiedOf st → Loud h m ys a

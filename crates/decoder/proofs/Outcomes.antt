@@ -2,7 +2,7 @@
 -- In order: soft decoding refused by its shape, for eight phases, by its length, and not refused; hard decoding, with a
 -- symbol refused too; whole numbers that are no more than each other, and messages with one label; soft decoding: its
 -- answer is unique, and found where nothing is refused; the same of hard decoding.
--- Assumes nothing.
+-- Not here: what holds where nothing is refused (Taken).  Assumes nothing.
 use Prim.Native.Nat.{ℕ}
 use native.Mathlib.Nat.{le-antisymm}
 use mathlib.Core.Path.{_≡_, refl, sym, _∙_, ap}

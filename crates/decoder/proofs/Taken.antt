@@ -1,5 +1,5 @@
--- What holds where nothing is refused, and how long slices and tables are, as code counts them. In order: four phases at
--- most; soft decoding; hard decoding; lengths as powers.
+-- What holds where nothing is refused, and how long slices and tables are, as code counts them. In order: four phases
+-- at most; soft decoding; hard decoding; lengths as powers; a table of gains fits its area.
 -- Not here: which refusal is given when (Outcomes).  Assumes nothing.
 use Prim.Native.Nat.{ℕ, _+_, _-_, _*_, _^_, _≤_, _<_}
 use native.Mathlib.Nat.{mul-comm}

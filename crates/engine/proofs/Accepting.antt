@@ -1,6 +1,7 @@
 -- Which tables of gains are searched: specs/Search.antt, accepts. In order: its four tests, one after the other; what
--- holds where they are passed; how long a table is, as code counts it; what a search answers.
--- Assumes nothing.
+-- holds where they are passed, and that no gain is too great there; how long a table is, as code counts it; what a
+-- search answers.
+-- Not here: the search through the labels (AllPaths, PathLaws).  Assumes nothing.
 use Prim.Native.Nat.{ℕ, _+_, _-_, _*_, _^_, _≤_, _<_}
 use native.Mathlib.Nat.{mul-le-mul}
 use native.Mathlib.Decide.{decLt}
@@ -15,8 +16,8 @@ use borrow.Author.Tests.{leb-true, eqb-true, le-leb, lt-leb, eq-eqb, ne-eqb}
 use Rattle.range.specs.Below.{allBelow}
 use Rattle.range.proofs.Tests.{and-left, and-right, allBelow-at}
 use Rattle.rules.specs.Shape.{inShape, phases, carriers, greatestM}
-use Rattle.rules.proofs.Range.{inShape-range}
 use Rattle.rules.specs.Label.{labels}
+use Rattle.rules.proofs.Range.{inShape-range}
 use Rattle.totals.specs.Totals.{totalOf}
 use Rattle.standing.specs.Lead.{nobody, lead}
 use Rattle.engine.specs.Tables.{mostTotal}

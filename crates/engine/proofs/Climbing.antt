@@ -1,6 +1,7 @@
--- The stages one after the other: specs/Tables.antt, Climbing. In order: how many numbers the next table has; its
--- numbers stay small; what the last stage may be given, and what it answers; what one stage may be given, what the
--- stages after it may be given, and what they answer.
+-- The stages one after the other: specs/Tables.antt, Climbing. In order: powers; the numbers of the next table stay
+-- small; what the stages answer; the next runs are no longer than the area; no stage is left but the last, or one at
+-- least; what the last stage may be given, and what it answers; what one stage may be given, what the stages after it
+-- may be given, and what they answer.
 -- Not here: where the runs of one table lie (RunLaws).  Assumes nothing.
 use Prim.Native.Nat.{ℕ, suc, _+_, _-_, _*_, _/_, _^_, _≤_, _<_}
 use native.Mathlib.Nat.{mul-le-mul, mul-one, pow-zero, pow-succ', pow-le-pow-left, le-refl, one-le-pow}
@@ -80,8 +81,9 @@ module _ (q half w l : ℕ) (xs ys : List ℕ) (p : Climbing 0 q half w l xs ys)
       r ≡ wanted q half w l xs st 0
   unfolding climbs
   climbing-done st r e =
+      let f : ℕ → ℕ = byLabel q (w * q) (climbed q 1 w (tableIn q 1 w xs)) in
       let n : q * (w * q) ≡ w * q * q = omega arith in
-      rw (pow-one q, climbing-half) (e ∙ ap (λ (k : ℕ). leadFrom l (byLabel q (w * q) (climbed q 1 w (tableIn q 1 w xs))) k st) n)
+      rw (pow-one q, climbing-half) (e ∙ ap (λ (k : ℕ). leadFrom l f k st) n)
 
 module _ (e q half w l : ℕ) (xs ys : List ℕ) (p : Climbing (suc e) q half w l xs ys) where
   -- one stage before others
@@ -94,7 +96,8 @@ module _ (e q half w l : ℕ) (xs ys : List ℕ) (p : Climbing (suc e) q half w 
       let c : 2 * q * w * q * 2 ^ e ≤ 2 * q * w * q * q ^ e = mul-le-mul (le-refl (2 * q * w * q)) b in
       let h : q * half * q * w ≡ 2 * q * w * q * 2 ^ e =
       ap (λ (k : ℕ). q * k * q * w) (p .halved ∙ pow-succ' 2 e) ∙ omega arith in
-      let t : 2 * q * w * q ^ suc e ≡ 2 * q * w * q * q ^ e = ap (λ (k : ℕ). 2 * q * w * k) (pow-succ' q e) ∙ omega arith in
+      let t : 2 * q * w * q ^ suc e ≡ 2 * q * w * q * q ^ e =
+      ap (λ (k : ℕ). 2 * q * w * k) (pow-succ' q e) ∙ omega arith in
       omega (arith, p .second)
 
   module _ (zs : List ℕ) (f : take (q * half * q * w) zs ≡ climbed q half w (tableIn q half w xs)) where
@@ -107,7 +110,8 @@ module _ (e q half w l : ℕ) (xs ys : List ℕ) (p : Climbing (suc e) q half w 
       halves = omega (arith, halving e half (p .halved) .0, one-le-pow e 2 (lit< tt));
       run = mul-le-mul {n₁ = 1} {m₁ = 1} {n₂ = w} {m₂ = q} (p .runs .run) (p .runs .symbols);
       long = ap length table-next ∙ length-climbed q half w (tableIn q half w xs) ∙ size-next;
-      small = λ i. rw (table-next, sym (halving e half (p .halved) .1)) (climbed-small q half w (tableIn q half w xs) (p .runs) i);
+      small = λ i. rw (table-next, sym (halving e half (p .halved) .1))
+          (climbed-small q half w (tableIn q half w xs) (p .runs) i);
     }
 
     pub climbing-next : length zs ≡ length ys → Climbing e q (half / 2) (w * q) l zs xs

@@ -1,5 +1,6 @@
--- The labels of a table counted: a row has one for each constant, the block of a coefficient a row for each choice of the
--- others. In order: one row more; one block more; a block in which nothing passes the second best.
+-- The labels of a table counted: a row has one for each constant, the block of a coefficient a row for each choice of
+-- the others. In order: the values of a block; one row more; a block in which nothing passes the second best; a block
+-- in the whole table; one block more.
 -- Not here: where the runs of a table lie (RunLaws).  Assumes nothing.
 use Prim.Native.Nat.{ℕ, _+_, _*_, _/_, _%_, _≤_, _<_}
 use native.Mathlib.Nat.{div-add-mod', div-lt-iff-lt-mul, mod-lt}
@@ -51,5 +52,5 @@ module _ (q w : ℕ) (xs : List ℕ) (c : ℕ) where
   blocks-next first label st₀ st r lc e p f =
       let n : c * (w * q) + w * q ≡ (c + 1) * (w * q) = omega arith in
       let g : ℕ → ℕ = byLabel q (w * q) (climbed q 1 w xs) in
-      subst (λ (k : ℕ). r ≡ leadFrom first g k st₀) n (leadFrom-stretch first g (c * (w * q)) (w * q) label blockAt st₀ st
-      r e p (λ j l. byLabel-block j lc l) f)
+      subst (λ (k : ℕ). r ≡ leadFrom first g k st₀) n (leadFrom-stretch first g (c * (w * q)) (w * q) label blockAt st₀
+      st r e p (λ j l. byLabel-block j lc l) f)

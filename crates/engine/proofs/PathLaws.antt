@@ -1,23 +1,22 @@
--- The labels of one path: specs/Tables.antt, Path. In order: its first label is one, and so are the others; its word can
--- be put into the gains; the first table, of which the stages may begin; what they answer, in terms of totals.
--- Not here: the stages (Climbing).  Assumes nothing.
+-- The labels of one path: specs/Tables.antt, Path. In order: its first label is one, and so are the others; powers to
+-- m, as the stages count them; the areas have room for the first table; the path's own word can be put into the gains;
+-- the first table, of which the stages may begin; what they answer, in terms of totals.
+-- Not here: the labels of all paths (AllPaths), the stages (Climbing).  Assumes nothing.
 use Prim.Native.Nat.{ℕ, suc, _+_, _-_, _*_, _^_, _≤_, _<_}
-use native.Mathlib.Nat.{one-mul, mul-le-mul, le-refl, pow-suc, pow-succ', pow-le-pow-left, pow-le-pow-right, one-le-pow}
+use native.Mathlib.Nat.{one-mul, mul-le-mul, le-refl, pow-suc, pow-succ', pow-le-pow-left, one-le-pow}
 use native.Mathlib.Decide.{decLt}
 use native.Mathlib.Numerals.{add-one}
 use native.Mathlib.Omega.{arith}
 use mathlib.Core.Path.{_≡_, sym, _∙_, ap}
 use mathlib.Core.List.{List}
-use lib.Dec.{lit<, lit≤}
+use lib.Dec.{lit<}
 use lib.ListN.{length, getD, take, List·getD-eq-default}
-use lib.Pow.{pow-mono, pow-add}
 use Rattle.range.specs.Below.{listBelow}
 use Rattle.range.proofs.Lists.{length-listBelow, listBelow-at}
-use Rattle.rules.specs.Shape.{greatestM, phases, carriers, pathsInUse, pathBits}
+use Rattle.rules.specs.Shape.{phases, carriers, pathsInUse}
 use Rattle.rules.specs.Label.{labels}
 use Rattle.rules.specs.Word.{wordAt}
-use Rattle.rules.proofs.Range.{InRange, inShape-range, messageBits-le, phases-least}
-use Rattle.words.proofs.Labels.{phases-pow}
+use Rattle.rules.proofs.Range.{InRange, inShape-range, phases-least}
 use Rattle.words.proofs.Forms.{wordAt-lt}
 use Rattle.totals.specs.Totals.{totalOf}
 use Rattle.totals.specs.Climb.{turnedAt, turned, climbs, byLabel}
@@ -26,17 +25,10 @@ use Rattle.totals.proofs.Totals.{byLabel-total}
 use Rattle.standing.specs.declared.Standing.{Standing}
 use Rattle.standing.specs.Lead.{leadFrom}
 use Rattle.standing.proofs.Lead.{leadFrom-cong}
-use Rattle.engine.specs.Tables.{area, mostTotal, Runs, Turning, tableIn, Climbing, Paths, Path}
+use Rattle.engine.specs.Tables.{mostTotal, Runs, Turning, tableIn, Climbing, Path}
 use Rattle.engine.proofs.RunLaws.{times-within}
 use Rattle.engine.proofs.Climbing.{wanted}
-
--- all labels are those of the paths in use
-pub labels-paths : (h m : ℕ) → pathsInUse m * phases h ^ (m + 1) ≡ labels h m
-labels-paths h m = rw (phases-pow h (m + 1)) (sym (pow-add 2 (pathBits m) (h * (m + 1))))
-
--- and they can be counted
-pub labels-le : (h m : ℕ) → InRange h m → labels h m ≤ 2 ^ 32
-labels-le h m r = omega (arith, pow-mono (messageBits-le h m r))
+use Rattle.engine.proofs.AllPaths.{labels-paths, labels-le}
 
 module _ (h m q half l : ℕ) (g w xs ys : List ℕ) (p : Path h m q half l g w xs ys) where
   range : InRange h m
@@ -49,22 +41,25 @@ module _ (h m q half l : ℕ) (g w xs ys : List ℕ) (p : Path h m q half l g w 
   pub path-first : l < labels h m
   path-first = omega (arith, path-labels, one-le-pow (m + 1) (phases h) (omega (arith, phases-least h m range)))
 
+  -- m is the number of stages
+  stages : suc (m - 1) ≡ m
+  stages = omega (arith, range .m-least)
+
+  power-left : (b : ℕ) → b ^ m ≡ b * b ^ (m - 1)
+  power-left b = ap (λ (k : ℕ). b ^ k) (sym stages) ∙ pow-succ' b (m - 1)
+
   -- N is twice half of it
   path-carriers : carriers m ≡ 2 * half
-  path-carriers =
-      let e : m ≡ suc (m - 1) = omega (arith, range .m-least) in
-      ap (λ (k : ℕ). 2 ^ k) e ∙ pow-succ' 2 (m - 1) ∙ ap (λ (k : ℕ). 2 * k) (sym (p .halved))
+  path-carriers = power-left 2 ∙ ap (λ (k : ℕ). 2 * k) (sym (p .halved))
 
   -- the areas have room for the first table
   pub path-room : length g ≤ length xs
   path-room =
       let a : 2 ^ (m - 1) ≤ phases h ^ (m - 1) = pow-le-pow-left (phases-least h m range) (m - 1) in
       let b : 2 * phases h * 2 ^ (m - 1) ≤ 2 * phases h * phases h ^ (m - 1) = mul-le-mul (le-refl (2 * phases h)) a in
-      let e : m ≡ suc (m - 1) = omega (arith, range .m-least) in
-      let c : phases h ^ m ≡ phases h * phases h ^ (m - 1) = ap (λ (k : ℕ). phases h ^ k) e ∙ pow-succ' (phases h) (m - 1) in
-      let d : phases h * carriers m ≡ 2 * phases h * 2 ^ (m - 1) =
-      ap (λ (k : ℕ). phases h * k) (path-carriers ∙ ap (λ (k : ℕ). 2 * k) (p .halved)) ∙ omega arith in
-      omega (arith, p .gains, p .areas .0)
+      let c : phases h * carriers m ≡ 2 * phases h * 2 ^ (m - 1) =
+      ap (λ (k : ℕ). phases h * k) (power-left 2) ∙ omega arith in
+      omega (arith, power-left (phases h), p .gains, p .areas .0)
 
   -- the path's own word, put into the gains
   module _ (v : List ℕ) (e : v ≡ listBelow (carriers m) (wordAt h m l)) where
@@ -107,17 +102,9 @@ module _ (h m q half l : ℕ) (g w xs ys : List ℕ) (p : Path h m q half l g w 
         small = λ i. rw (table-first, sym path-carriers) (first-small i);
       }
 
-      -- q^m, as the stages count it
-      power-left : q ^ m ≡ q * q ^ (m - 1)
-      power-left =
-          let e : m ≡ suc (m - 1) = omega (arith, range .m-least) in
-          ap (λ (k : ℕ). q ^ k) e ∙ pow-succ' q (m - 1)
-
-      -- how many labels there are, and how many for each constant, as the stages count them
+      -- how many labels there are for each constant, and in all, as the stages count them
       width : 1 * q ^ suc (m - 1) ≡ phases h ^ m
-      width =
-          let e : suc (m - 1) ≡ m = omega (arith, range .m-least) in
-          one-mul (q ^ suc (m - 1)) ∙ ap (λ (k : ℕ). q ^ k) e ∙ ap (λ (k : ℕ). k ^ m) (p .symbols)
+      width = one-mul (q ^ suc (m - 1)) ∙ ap (λ (k : ℕ). q ^ k) stages ∙ ap (λ (k : ℕ). k ^ m) (p .symbols)
 
       size : 1 * q ^ suc (m - 1) * q ≡ phases h ^ (m + 1)
       size = rw (width, p .symbols, add-one) (sym (pow-suc (phases h) m))
@@ -125,7 +112,7 @@ module _ (h m q half l : ℕ) (g w xs ys : List ℕ) (p : Path h m q half l g w 
       pub path-climbing : length zs ≡ length xs → Climbing (m - 1) q half 1 l zs ys
       path-climbing s =
           let u : 2 * phases h ^ m ≡ 2 * q * 1 * q ^ (m - 1) =
-          omega (arith, power-left, ap (λ (k : ℕ). k ^ m) (p .symbols)) in
+          omega (arith, power-left q, ap (λ (k : ℕ). k ^ m) (p .symbols)) in
           record {
             halved = p .halved;
             symbols = omega (arith, p .symbols, phases-least h m range);
@@ -143,43 +130,9 @@ module _ (h m q half l : ℕ) (g w xs ys : List ℕ) (p : Path h m q half l g w 
       path-returned st r back =
           let a : wanted q half 1 l zs st (m - 1)
           ≡ leadFrom l (byLabel q (phases h ^ m) (climbs q m 1 (turned q (carriers m) v g))) (phases h ^ (m + 1)) st =
-          rw (size, width, table-first, left) in
+          rw (size, width, table-first, stages) in
           back ∙ a ∙ leadFrom-cong l _ _ (phases h ^ (m + 1)) st total
         where
-          left : suc (m - 1) ≡ m
-          left = omega (arith, range .m-least)
-
           total : (j : ℕ) → j < phases h ^ (m + 1) →
               byLabel q (phases h ^ m) (climbs q m 1 (turned q (carriers m) v g)) j ≡ totalOf h m g (l + j)
           total j b = rw (e, p .first, p .symbols) (byLabel-total h m g (p .number) j b)
-
--- the labels of all paths
-pub all-labels : {h m q half size uses : ℕ} {g w xs ys : List ℕ} → Paths h m q half size uses g w xs ys →
-    uses * size ≡ labels h m
-all-labels {h = h} {m = m} p = rw (p .used, p .sized) (labels-paths h m)
-
--- the areas have room for the greatest shape, and so for each
-area-le : (h m : ℕ) → InRange h m → h ≤ 2 → 2 * phases h ^ m ≤ area
-area-le h m r b =
-    let a : phases h ^ m ≤ phases 2 ^ m = pow-le-pow-left (pow-mono b) m in
-    let c : phases 2 ^ m ≤ phases 2 ^ greatestM = pow-le-pow-right {n = phases 2} (lit≤ tt) (r .m-most) in
-    omega arith
-
--- one path of all, the one with number n
-pub paths-path : (h m q half size uses l n : ℕ) (g w xs ys w′ xs′ ys′ : List ℕ) →
-    Paths h m q half size uses g w xs ys → n < uses → l ≡ n * size → length w′ ≡ length w → length xs′ ≡ length xs →
-    length ys′ ≡ length ys → Path h m q half l g w′ xs′ ys′
-paths-path h m q half size uses l n g w xs ys w′ xs′ ys′ p b e ew ex ey =
-    let top : 2 * phases h ^ m ≤ area = area-le h m (inShape-range h m (p .shape)) (p .few) in
-    record {
-      shape = p .shape;
-      symbols = p .symbols;
-      halved = p .halved;
-      number = n;
-      used = omega (arith, p .used);
-      first = e ∙ ap (λ (k : ℕ). n * k) (p .sized);
-      gains = p .gains;
-      small = p .small;
-      word = ew ∙ p .areas .word;
-      areas = (omega (arith, p .areas .first), omega (arith, p .areas .second));
-    }

@@ -1,6 +1,8 @@
--- The runs of a table lie inside it, and no sum of two numbers is too great: specs/Tables.antt. In order: a product with
--- one more; the runs of a table to be read; the runs of a table to be written.
--- Assumes nothing.
+-- The runs of a table lie inside it, and no sum of two numbers is too great: specs/Tables.antt. In order: products; the
+-- runs of a table that is read, how many there are, and sums of their numbers; the sums of the last stage; a sum as a
+-- number of the next table, and the run one symbol further on; a gain as a number of the first table; a table at the
+-- front of an area, read and written.
+-- Not here: the labels of a table (Counting), the stages one after the other (Climbing).  Assumes nothing.
 use Prim.Native.Nat.{ℕ, _+_, _*_, _%_, _≤_, _<_}
 use native.Mathlib.Nat.{mul-le-mul, mul-one, mod-add-mod}
 use native.Mathlib.Omega.{arith}

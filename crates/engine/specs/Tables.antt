@@ -11,7 +11,7 @@
 --           Paths h m q half size uses g w xs ys    all paths may be searched with the gains g, by way of the areas w
 --                                 for a word, and xs and ys for tables
 --           Path h m q half l g w xs ys    the labels of the path whose first label is l may be searched so
--- Laws: proofs/RunLaws.antt.  Assumes nothing: these are definitions.
+-- Laws: proofs/RunLaws.antt, Climbing.antt, PathLaws.antt, AllPaths.antt.  Assumes nothing: these are definitions.
 use Prim.Native.Nat.{ℕ, suc, _+_, _-_, _*_, _^_, _≤_, _<_}
 use mathlib.Core.Path.{_≡_}
 use mathlib.Core.Bool.{true}

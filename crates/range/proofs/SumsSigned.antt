@@ -58,9 +58,14 @@ mag-cond : (c : Bool) (x y : ℤ) (w : ℕ) → mag x < w → mag y < w → mag 
 mag-cond true x y w p q = p
 mag-cond false x y w p q = q
 
--- a difference of two natural numbers, the second at most w
-mag-subℕ : (a b w : ℕ) → a < w → b ≤ w → mag (subℕ a b) < w
+-- a difference of two natural numbers that lies from -w to w - 1
+mag-subℕ : (a b w : ℕ) → a < b + w → b ≤ a + w → mag (subℕ a b) < w
 mag-subℕ a b w p q = mag-cond (ltb a b) (negsuc (b - suc a)) (pos (a - b)) w (omega arith) (omega arith)
+
+-- the same, written as a difference of whole numbers
+pub mag-difference : (a b w : ℕ) → a < b + w → b ≤ a + w → mag (pos a -ℤ pos b) < w
+mag-difference a zero w p q = omega arith
+mag-difference a (suc b) w p q = mag-subℕ a (suc b) w p q
 
 pub mag-add : (a b : ℤ) (w : ℕ) → mag a < w → mag b < w → mag (a +ℤ b) < w + w
 mag-add (pos a) (pos b) w p q = omega arith

@@ -9,11 +9,12 @@ use mir.Syntax.{w32}
 use mir.Val.{SFits, ofZ, toZ}
 use mir.ValLaws.{toZ-pos, toZ-ofZ}
 use borrow.Author.Needs.{needs}
+use Rattle.range.proofs.SumsSigned.{mag-difference}
 use Rattle.rules.specs.Shape.{carriers, greatestM}
 use Rattle.rules.proofs.Range.{inShape-range, carriers-most}
 use Rattle.shape.proofs.Powers.{power-carriers}
 use Rattle.totals.specs.Gains.{loudest}
-use Rattle.decoder.proofs.Casts.{natural-fits, natural-is, mag-difference}
+use Rattle.decoder.proofs.Casts.{natural-fits, natural-is}
 use Rattle.decoder.proofs.as_correlation.Statement.{statement}
 use Rattle.decoder.proofs.as_correlation.Tie as tie
 

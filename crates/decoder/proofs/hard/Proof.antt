@@ -49,7 +49,8 @@ carriers-is c =
 returns-3 : tie.Need-returns-3
 returns-3 c =
     let twice = c .before .before in (
-      hard-length _ _ _ (shaped (twice .before)) (twice .if2 .left) (λ e. c .if3 .taken (e ∙ sym (carriers-is (c .before)))),
+      hard-length _ _ _ (shaped (twice .before)) (twice .if2 .left)
+          (λ e. c .if3 .taken (e ∙ sym (carriers-is (c .before)))),
       refl,
     )
 

@@ -22,17 +22,29 @@ raise-requires c κs =
 search-requires : tie.Need-search-requires
 search-requires c κs = search needs
 
+-- the function's entry, seen from behind the table of gains, and that table, seen from behind the search
+abbrev start : tie.After-raise → tie.Start
+start c = c .before .before .before
+
+abbrev raised : tie.After-search → tie.After-raise
+raised c = c .before .before .before .before
+
 -- the standing is that of the gains
-searched-gains : (c : tie.After-search) → let args = c .before .before .before .before .before .before .before .args in
-    c .search .result ≡ searched (args .h) (args .m) (tableOf (args .h) (args .m) (softGain (args .h) (now (args .values))))
+searched-gains : (c : tie.After-search) → let args = start (raised c) .args in
+    c .search .result
+    ≡ searched (args .h) (args .m) (tableOf (args .h) (args .m) (softGain (args .h) (now (args .values))))
 searched-gains c =
-    let args = c .before .before .before .before .before .before .before .args in
-    c .search .ensures ∙ ap (searched (args .h) (args .m)) (c .before .before .before .before .raise .ensures .0)
+    let args = start (raised c) .args in
+    c .search .ensures ∙ ap (searched (args .h) (args .m)) (raised c .raise .ensures .0)
 
 as-correlation-requires : tie.Need-as-correlation-requires
 as-correlation-requires c κs =
-    let s = c .before .before .before .before .before .before .before in
-    (taken s .shape, soft-best-le _ _ (taken s .shape) (taken s .few) (c .search .result) (now (s .args .values)) (c .before .before .before .before .raise .ensures .1) (searched-gains c))
+    let s = start (raised c) in
+    let t = taken s in (
+      t .shape,
+      soft-best-le _ _ (t .shape) (t .few) (c .search .result) (now (s .args .values)) (raised c .raise .ensures .1)
+          (searched-gains c),
+    )
 
 same-length : tie.Need-same-length
 same-length c = search needs
@@ -40,10 +52,11 @@ same-length c = search needs
 returns : tie.Need-returns
 returns c =
     let found = c .before in
-    let s = found .before .before .before .before .before .before .before in
+    let s = start (raised found) in
     let e = c .as-correlation .ensures in
-    soft-found _ _ (taken s .shape) (taken s .few) (found .search .result) (now (s .args .values)) (found .before .before .before .before .raise .ensures .1)
-    (searched-gains found) (c .as-correlation .result) (s .pre .0) (e .0) (e .1) (e .2)
+    soft-found _ _ (taken s .shape) (taken s .few) (found .search .result) (now (s .args .values))
+    (raised found .raise .ensures .1) (searched-gains found) (c .as-correlation .result) (s .pre .0) (e .0) (e .1)
+    (e .2)
 
 pub hear-spec : {M : Type 1} → statement M
 hear-spec =

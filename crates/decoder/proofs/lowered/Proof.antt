@@ -26,11 +26,11 @@ difference c =
 small : (c : tie.Start) → given c < 2 ^ 31
 small c = omega arith
 
-cast-result : tie.Need-cast-result
-cast-result c = widened-fits (c .args .y) (c .fits .y)
-
 sub-result : tie.Need-sub-result
 sub-result c = natural-fits _ (given c) (difference c) (small c)
+
+cast-result : tie.Need-cast-result
+cast-result c = widened-fits (c .args .y) (c .fits .y)
 
 cast-result-2 : tie.Need-cast-result-2
 cast-result-2 c = natural-casts _ (given c) (difference c) (small c)

@@ -51,17 +51,22 @@ power-requires : tie.Need-power-requires
 power-requires c κs = search needs
 
 -- what the length is held against
-length-is : (c : tie.After-power) → let args = start (c .before) .args in c .power .result ≡ softLength (args .h) (args .m)
+length-is : (c : tie.After-power) → let args = start (c .before) .args in
+    c .power .result ≡ softLength (args .h) (args .m)
 length-is c =
     let args = start (c .before) .args in
     let r = ranged (c .before) in
+    let product = softLength-product (args .h) (args .m) (shaped (c .before .before)) (few (c .before)) in
     c .power .ensures ∙ power-is (args .h - 1 + args .m) (omega (arith, r .h-most, r .m-most))
-    ∙ sym (softLength-product (args .h) (args .m) (shaped (c .before .before)) (few (c .before)) ∙ values-power (args .h) (args .m))
+    ∙ sym (product ∙ values-power (args .h) (args .m))
 
 returns-3 : tie.Need-returns-3
 returns-3 c =
-    let twice = c .before .before in
-    (soft-length _ _ _ (shaped (twice .before)) (twice .if2 .left) (λ e. c .if3 .taken (e ∙ sym (length-is (c .before)))), refl)
+    let twice = c .before .before in (
+      soft-length _ _ _ (shaped (twice .before)) (twice .if2 .left)
+          (λ e. c .if3 .taken (e ∙ sym (length-is (c .before)))),
+      refl,
+    )
 
 -- nothing is refused
 taken : (c : tie.Else3) → let args = start (c .before .before) .args in
@@ -89,7 +94,8 @@ gains-is c =
 fits : (c : tie.After-power2) → c .power2 .result ≤ 4 * carriers greatestM
 fits c =
     let twice = c .before .before .before in
-    omega (arith, gains-is c, gains-fit (start twice .args .h) (start twice .args .m) (shaped (twice .before)) (few twice))
+    let args = start twice .args in
+    omega (arith, gains-is c, gains-fit (args .h) (args .m) (shaped (twice .before)) (few twice))
 
 array-borrow-prefix-gains : tie.Need-array-borrow-prefix-gains
 array-borrow-prefix-gains c = fits c

@@ -22,17 +22,28 @@ compare-requires c κs =
 search-requires : tie.Need-search-requires
 search-requires c κs = search needs
 
+-- the function's entry, seen from behind the table of gains, and that table, seen from behind the search
+abbrev start : tie.After-compare → tie.Start
+start c = c .before .before .before .before
+
+abbrev compared : tie.After-search → tie.After-compare
+compared c = c .before .before .before .before
+
 -- the standing is that of the gains
-searched-gains : (c : tie.After-search) → let args = c .before .before .before .before .before .before .before .before .args in
-    c .search .result ≡ searched (args .h) (args .m) (tableOf (args .h) (args .m) (hardGain (args .h) (now (args .word))))
+searched-gains : (c : tie.After-search) → let args = start (compared c) .args in
+    c .search .result
+    ≡ searched (args .h) (args .m) (tableOf (args .h) (args .m) (hardGain (args .h) (now (args .word))))
 searched-gains c =
-    let args = c .before .before .before .before .before .before .before .before .args in
-    c .search .ensures ∙ ap (searched (args .h) (args .m)) (c .before .before .before .before .compare .ensures)
+    let args = start (compared c) .args in
+    c .search .ensures ∙ ap (searched (args .h) (args .m)) (compared c .compare .ensures)
 
 as-distance-requires : tie.Need-as-distance-requires
 as-distance-requires c κs =
-    let s = c .before .before .before .before .before .before .before .before in
-    (taken s .shape, hard-best-le _ _ (taken s .shape) (taken s .few) (c .search .result) (now (s .args .word)) (taken s .inside) (searched-gains c))
+    let s = start (compared c) in
+    let t = taken s in (
+      t .shape,
+      hard-best-le _ _ (t .shape) (t .few) (c .search .result) (now (s .args .word)) (t .inside) (searched-gains c),
+    )
 
 same-length : tie.Need-same-length
 same-length c = search needs
@@ -40,7 +51,7 @@ same-length c = search needs
 returns : tie.Need-returns
 returns c =
     let found = c .before in
-    let s = found .before .before .before .before .before .before .before .before in
+    let s = start (compared found) in
     let e = c .as-distance .ensures in
     hard-found _ _ (taken s .shape) (taken s .few) (found .search .result) (now (s .args .word)) (taken s .inside)
     (searched-gains found) (c .as-distance .result) (s .pre .0) (e .0) (e .1) (e .2)

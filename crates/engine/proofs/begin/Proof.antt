@@ -1,9 +1,11 @@
 -- `engine::begin` meets its contract: the first table is written to the front of the area.
 -- Assumes nothing.
 use mathlib.Core.Path.{sym, _∙_}
+use lib.ListN.{length}
 use lib.Seq.{length-take-le}
 use denote.Ref.{now}
 use borrow.Author.Needs.{needs}
+use Rattle.totals.specs.Climb.{turned}
 use Rattle.totals.proofs.Runs.{length-turned}
 use Rattle.engine.proofs.RunLaws.{front-written}
 use Rattle.engine.proofs.begin.Statement.{statement}
@@ -26,9 +28,10 @@ same-length c = search needs
 returns : tie.Need-returns
 returns c =
     let s = c .before .before .before .before .before .before .before in
-    front-written _ (now (s .args .x)) _ _ (s .pre .1)
-    (length-turned (s .args .q) _ (now (s .args .word)) (now (s .args .gains)) ∙ sym (s .pre .0 .long))
-    (c .before .before .start .ensures)
+    let word = now (s .args .word) in
+    let gains = now (s .args .gains) in
+    front-written _ (now (s .args .x)) _ (turned (s .args .q) (length word) word gains) (s .pre .1)
+    (length-turned (s .args .q) (length word) word gains ∙ sym (s .pre .0 .long)) (c .before .before .start .ensures)
 
 pub begin-spec : {M : Type 1} → statement M
 begin-spec =

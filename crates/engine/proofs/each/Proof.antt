@@ -12,7 +12,7 @@ use Rattle.totals.specs.Totals.{totalOf}
 use Rattle.standing.specs.Lead.{nobody, leadFrom, lead}
 use Rattle.standing.proofs.Lead.{leadFrom-none, leadFrom-end, leadFrom-stretch}
 use Rattle.engine.proofs.RunLaws.{times-within}
-use Rattle.engine.proofs.PathLaws.{labels-le, all-labels, paths-path}
+use Rattle.engine.proofs.AllPaths.{labels-le, all-labels, paths-path}
 use Rattle.engine.proofs.each.Statement.{statement}
 use Rattle.engine.proofs.each.Tie as tie
 
@@ -31,12 +31,18 @@ abbrev μ-loop : tie.MeasureT-loop
 loop-holds : tie.Need-loop-holds Inv-loop μ-loop
 loop-holds c = (omega arith, omega arith, leadFrom-none 0 _ 0 nobody refl, refl, refl, refl)
 
--- the function's entry, seen from inside the loop, and the turn, seen from its end
+-- the function's entry, seen from the loop and from inside it; the path gone through, and the turn, seen from its end
+abbrev entry : tie.At-loop Inv-loop μ-loop → tie.Start Inv-loop μ-loop
+entry c = c .before .before .before .before .before
+
 abbrev start : tie.In-loop Inv-loop μ-loop → tie.Start Inv-loop μ-loop
-start c = c .before .before .before .before .before .before
+start c = entry (c .before)
+
+abbrev passed : tie.After-slice-known6 Inv-loop μ-loop → tie.After-path Inv-loop μ-loop
+passed c = c .before .before .before .before .before .before
 
 abbrev turn : tie.After-slice-known6 Inv-loop μ-loop → tie.In-loop Inv-loop μ-loop
-turn c = c .before .before .before .before .before .before .before .before .before .before
+turn c = passed c .before .before .before .before
 
 -- the labels of a path can be counted
 counted : (c : tie.In-loop Inv-loop μ-loop) → let s = start c in
@@ -74,12 +80,13 @@ loop-again c =
     let in-loop = turn c in
     let at = in-loop .before .loop in
     let s = start in-loop in
-    let done = c .before .before .before .before .before .before .path in
+    let done = passed c .path in
     let kept = done .kept .1 .1 .1 .1 .1 .1 in (
       omega (arith, in-loop .loop-test .taken),
       omega (arith, at .inv .1),
       rw (s .pre .sized) (leadFrom-stretch 0 (totalOf (s .args .h) (s .args .m) (now (s .args .gains))) (at .first) _
-          (at .first) _ nobody (at .st) (done .result) (at .inv .2) (sym (zero-add (at .first))) (λ j _. refl) (done .ensures)),
+          (at .first) _ nobody (at .st) (done .result) (at .inv .2) (sym (zero-add (at .first))) (λ j _. refl)
+          (done .ensures)),
       kept .0 ∙ at .inv .3,
       kept .1 .0 ∙ at .inv .4,
       kept .1 .1 .0 ∙ at .inv .5,
@@ -98,7 +105,7 @@ returns : tie.Need-returns Inv-loop μ-loop
 unfolding lead
 returns c =
     let at = c .before .loop in
-    let s = c .before .before .before .before .before .before in
+    let s = entry (c .before) in
     let e : at .n ≡ s .args .uses = omega (arith, at .inv .0, c .loop-test .left) in
     leadFrom-end 0 (totalOf (s .args .h) (s .args .m) (now (s .args .gains))) (at .first) _ nobody (at .st) (at .inv .2)
     (at .inv .1 ∙ ap (λ (k : ℕ). k * s .args .size) e ∙ all-labels (s .pre))

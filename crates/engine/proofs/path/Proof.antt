@@ -8,33 +8,38 @@ use Rattle.engine.proofs.PathLaws.{path-first, path-room, path-turning,
 use Rattle.engine.proofs.path.Statement.{statement}
 use Rattle.engine.proofs.path.Tie as tie
 
--- the function's entry, seen from behind the first table, and from behind the stages
-abbrev start : tie.After-begin → tie.Start
-start c = c .before .before .before .before .before .before .before .before .before .before .before
+-- the function's entry, seen from before the path's own word; that word, seen from before the first table; and that
+-- table, seen from behind the stages
+abbrev start : tie.After-own-word-arg → tie.Start
+start c = c .before .before .before .before .before
+
+abbrev worded : tie.After-begin-arg2 → tie.After-own-word
+worded c = c .before .before .before .before
 
 abbrev begun : tie.After-climb → tie.After-begin
 begun c = c .before .before .before .before .before
 
 own-word-requires : tie.Need-own-word-requires
 own-word-requires c κs =
-    let p = c .before .before .before .before .before .pre in
+    let p = start c .pre in
     (p .shape, path-first _ _ _ _ _ _ _ _ _ p, p .word)
 
 begin-requires : tie.Need-begin-requires
 begin-requires c κs =
-    let p = c .before .before .before .before .before .before .before .before .before .before .pre in
-    (path-turning _ _ _ _ _ _ _ _ _ p _ (c .before .before .before .before .own-word .ensures), path-room _ _ _ _ _ _ _ _ _ p)
+    let own = worded c in
+    let p = start (own .before) .pre in
+    (path-turning _ _ _ _ _ _ _ _ _ p _ (own .own-word .ensures), path-room _ _ _ _ _ _ _ _ _ p)
 
 sub-climb : tie.Need-sub-climb
 sub-climb c =
-    let s = c .before .before .before .before .before .before .before .before .before .before .before .before .before in
+    let s = start (worded (c .before .before .before) .before) in
     omega (arith, inShape-range (s .args .h) (s .args .m) (s .pre .shape) .m-least)
 
 climb-requires : tie.Need-climb-requires
 climb-requires c κs =
     let began = c .before .before .before .before in
-    let p = start began .pre in
-    path-climbing _ _ _ _ _ _ _ _ _ p _ (began .before .before .before .before .before .own-word .ensures) _ (began .begin .ensures .0)
+    let own = worded (began .before) in
+    path-climbing _ _ _ _ _ _ _ _ _ (start (own .before) .pre) _ (own .own-word .ensures) _ (began .begin .ensures .0)
     (began .begin .ensures .1)
 
 same-length : tie.Need-same-length
@@ -50,8 +55,9 @@ returns : tie.Need-returns
 returns c =
     let climbed = c .before .before .before .before in
     let began = begun climbed in
-    let s = start began in
-    path-returned _ _ _ _ _ (now (s .args .gains)) _ _ _ (s .pre) _ (began .before .before .before .before .before .own-word .ensures) _
+    let own = worded (began .before) in
+    let s = start (own .before) in
+    path-returned _ _ _ _ _ (now (s .args .gains)) _ _ _ (s .pre) _ (own .own-word .ensures) _
     (began .begin .ensures .0) (s .args .before) (climbed .climb .result) (climbed .climb .ensures)
 
 pub path-spec : {M : Type 1} → statement M

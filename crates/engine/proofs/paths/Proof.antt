@@ -1,16 +1,21 @@
 -- `engine::paths` meets its contract: the powers are the numbers that the shape gives.
 -- Assumes nothing.
-use Prim.Native.Nat.{ℕ, _^_}
+use Prim.Native.Nat.{ℕ, _+_, _^_}
 use native.Mathlib.Omega.{arith}
-use mathlib.Core.Path.{sym, _∙_, ap}
+use mathlib.Core.Path.{_≡_, sym, _∙_, ap}
 use denote.Ref.{now}
 use borrow.Author.Needs.{needs}
+use Rattle.rules.specs.Shape.{phases, pathsInUse}
 use Rattle.rules.proofs.Range.{InRange, inShape-range, pathBits-le, coefficientBits-le}
 use Rattle.shape.proofs.Powers.{power-is}
 use Rattle.words.proofs.Labels.{phases-pow}
 use Rattle.engine.proofs.Accepting.{Accepted, accepts-given, accepted-small}
 use Rattle.engine.proofs.paths.Statement.{statement}
 use Rattle.engine.proofs.paths.Tie as tie
+
+-- the function's entry, seen from behind the first power
+abbrev start : tie.After-power → tie.Start
+start c = c .before .before .before .before .before
 
 -- what the gains that are accepted say
 accepted : (s : tie.Start) → Accepted (s .args .h) (s .args .m) (now (s .args .gains))
@@ -23,17 +28,17 @@ power-requires : tie.Need-power-requires
 power-requires c κs = search needs
 
 sub-power : tie.Need-sub-power
-sub-power c = omega (arith, ranged (c .before .before .before .before .before) .m-least)
+sub-power c = omega (arith, ranged (start c) .m-least)
 
 power-requires-2 : tie.Need-power-requires-2
 power-requires-2 c κs = search needs
 
 add-power : tie.Need-add-power
-add-power c = omega (arith, ranged (c .before .before .before .before .before .before) .m-most)
+add-power c = omega (arith, ranged (start (c .before)) .m-most)
 
 mul-power : tie.Need-mul-power
 mul-power c =
-    let s = c .before .before .before .before .before .before in
+    let s = start (c .before) in
     omega (arith, coefficientBits-le (s .args .h) (s .args .m) (ranged s))
 
 power-requires-3 : tie.Need-power-requires-3
@@ -45,24 +50,34 @@ path-bits-requires c κs = search needs
 power-requires-4 : tie.Need-power-requires-4
 power-requires-4 c κs = search needs
 
+-- the labels of a path, and the paths in use
+sized : (c : tie.After-power3) → let args = start (c .before .before) .args in
+    c .power3 .result ≡ phases (args .h) ^ (args .m + 1)
+sized c =
+    let s = start (c .before .before) in
+    c .power3 .ensures ∙ power-is _ (omega (arith, coefficientBits-le (s .args .h) (s .args .m) (ranged s)))
+    ∙ sym (phases-pow (s .args .h) (s .args .m + 1))
+
+used : (c : tie.After-power4) → c .power4 .result ≡ pathsInUse (start (c .before .before .before .before) .args .m)
+used c =
+    let bits = c .before .path-bits .ensures in
+    let m = start (c .before .before .before .before) .args .m in
+    c .power4 .ensures ∙ power-is _ (omega (arith, bits, pathBits-le m)) ∙ ap (λ (e : ℕ). 2 ^ e) bits
+
 each-requires : tie.Need-each-requires
 each-requires c κs =
-    let used = c .before .before .before in
-    let bits = used .before .path-bits .ensures in
-    let sized = used .before .before in
-    let halved = sized .before in
-    let s = halved .before .before .before .before .before .before in
-    let args = s .args in
+    let fourth = c .before .before .before in
+    let third = fourth .before .before in
+    let first = third .before .before in
+    let s = start first in
     let r = ranged s in
     record {
       shape = accepted s .shape;
       few = accepted s .few;
-      symbols = halved .before .power .ensures ∙ power-is (args .h) (omega (arith, r .h-most));
-      halved = halved .power2 .ensures ∙ power-is _ (omega (arith, r .m-most));
-      sized = sized .power3 .ensures ∙ power-is _ (omega (arith, coefficientBits-le (args .h) (args .m) r))
-          ∙ sym (phases-pow (args .h) _);
-      used = used .power4 .ensures ∙ power-is _ (omega (arith, bits, pathBits-le (args .m)))
-          ∙ ap (λ (e : ℕ). 2 ^ e) bits;
+      symbols = first .power .ensures ∙ power-is (s .args .h) (omega (arith, r .h-most));
+      halved = third .before .power2 .ensures ∙ power-is _ (omega (arith, r .m-most));
+      sized = sized third;
+      used = used fourth;
       gains = accepted s .long;
       small = accepted-small _ _ _ (accepted s);
       areas = s .pre .1;

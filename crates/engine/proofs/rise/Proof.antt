@@ -8,16 +8,23 @@ use lib.ListN.{length}
 use lib.Seq.{length-take-le}
 use denote.Ref.{now}
 use borrow.Author.Needs.{needs}
+use Rattle.totals.specs.Climb.{climbed}
 use Rattle.totals.proofs.Runs.{length-climbed}
+use Rattle.engine.specs.Tables.{tableIn}
 use Rattle.engine.proofs.RunLaws.{times-least, runs-size, front-written}
 use Rattle.engine.proofs.rise.Statement.{statement}
 use Rattle.engine.proofs.rise.Tie as tie
 
+-- there are as many runs as the area has numbers, or fewer
 number : (c : tie.After-slice-known) → let args = c .before .before .args in
     2 * (args .q * args .half) ≤ length (now (args .x))
 number c =
     let s = c .before .before in
-    omega (arith, times-least (2 * (s .args .q * s .args .half)) (s .args .w) (s .pre .0 .run), runs-size _ _ _ _ (s .pre .0))
+    omega (
+      arith,
+      times-least (2 * (s .args .q * s .args .half)) (s .args .w) (s .pre .0 .run),
+      runs-size _ _ _ _ (s .pre .0),
+    )
 
 mul-n : tie.Need-mul-n
 mul-n c = omega (arith, number c)
@@ -60,9 +67,10 @@ same-length c = search needs
 returns : tie.Need-returns
 returns c =
     let s = c .before .before .before .before .before .before .before in
-    let e = c .before .before .stage .ensures in
     let args = s .args in
-    front-written _ (now (args .y)) _ _ (s .pre .1) (length-climbed (args .q) (args .half) (args .w) _) e
+    let xs = tableIn (args .q) (args .half) (args .w) (now (args .x)) in
+    front-written _ (now (args .y)) _ (climbed (args .q) (args .half) (args .w) xs) (s .pre .1)
+    (length-climbed (args .q) (args .half) (args .w) xs) (c .before .before .stage .ensures)
 
 pub rise-spec : {M : Type 1} → statement M
 rise-spec =

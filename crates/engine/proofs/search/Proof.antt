@@ -28,18 +28,21 @@ returns c = searched-not _ _ _ (sym (c .before .takes .ensures) ∙ not-true _ (
 power-requires : tie.Need-power-requires
 power-requires c κs = search needs
 
--- behind the test the gains are accepted, and N is no more than the greatest
-taken : (c : tie.Else1) → let args = c .before .before .before .args in accepts (args .h) (args .m) (now (args .gains)) ≡ true
+-- the function's entry, seen from behind the test; the gains are accepted, and N is no more than the greatest
+abbrev start : tie.Else1 → tie.Start
+start c = c .before .before .before
+
+taken : (c : tie.Else1) → let args = start c .args in accepts (args .h) (args .m) (now (args .gains)) ≡ true
 taken c = sym (c .before .takes .ensures) ∙ not-false _ (c .if1 .left)
 
-places : (c : tie.After-power) → let args = c .before .before .before .before .args in c .power .result ≡ carriers (args .m)
+places : (c : tie.After-power) → c .power .result ≡ carriers (start (c .before) .args .m)
 places c =
-    let args = c .before .before .before .before .args in
+    let args = start (c .before) .args in
     c .power .ensures ∙ power-carriers (args .h) (args .m) (accepts-given _ _ _ (taken (c .before)) .shape)
 
 fits : (c : tie.After-power) → c .power .result ≤ carriers greatestM
 fits c =
-    let args = c .before .before .before .before .args in
+    let args = start (c .before) .args in
     let r = inShape-range (args .h) (args .m) (accepts-given _ _ _ (taken (c .before)) .shape) in
     omega (arith, places c, pow-mono (r .m-most))
 
@@ -69,7 +72,7 @@ paths-requires c κs =
 returns-2 : tie.Need-returns-2
 returns-2 c =
     let done = c .before .before .before in
-    done .paths .ensures ∙ sym (searched-is _ _ _ (taken (done .before .before .before .before .before)))
+    rw (searched-is _ _ _ (taken (done .before .before .before .before .before))) (done .paths .ensures)
 
 pub search-spec : {M : Type 1} → statement M
 search-spec =

@@ -19,8 +19,11 @@ in-shape-requires c κs = search needs
 returns : tie.Need-returns
 returns c = accepts-shape _ _ _ (sym (c .before .in-shape .ensures) ∙ not-true _ (c .if1 .taken))
 
--- behind the first test the shape is in range
-ranged : (c : tie.Else1) → let args = c .before .before .before .args in inShape (args .h) (args .m) ≡ true
+-- the function's entry, seen from behind the first test; the shape is in range
+abbrev start : tie.Else1 → tie.Start
+start c = c .before .before .before
+
+ranged : (c : tie.Else1) → inShape (start c .args .h) (start c .args .m) ≡ true
 ranged c = sym (c .before .in-shape .ensures) ∙ not-false _ (c .if1 .left)
 
 returns-2 : tie.Need-returns-2
@@ -28,7 +31,7 @@ returns-2 c = accepts-few _ _ _ (ranged (c .before)) (c .if2 .taken)
 
 add-power : tie.Need-add-power
 add-power c =
-    let args = c .before .before .before .before .args in
+    let args = start (c .before) .args in
     let r = inShape-range (args .h) (args .m) (ranged (c .before)) in
     omega (arith, r .h-most, r .m-most)
 
@@ -36,17 +39,20 @@ power-requires : tie.Need-power-requires
 power-requires c κs = search needs
 
 -- what the length is held against
-size-is : (c : tie.After-power) → let args = c .before .before .before .before .before .args in c .power .result ≡ 2 ^ (args .h + args .m)
+size-is : (c : tie.After-power) → let args = start (c .before .before) .args in
+    c .power .result ≡ 2 ^ (args .h + args .m)
 size-is c =
-    let args = c .before .before .before .before .before .args in
-    let r = inShape-range (args .h) (args .m) (ranged (c .before .before)) in
+    let in-shape = c .before .before in
+    let args = start in-shape .args in
+    let r = inShape-range (args .h) (args .m) (ranged in-shape) in
     c .power .ensures ∙ power-is (args .h + args .m) (omega (arith, r .h-most, r .m-most))
 
 returns-3 : tie.Need-returns-3
 returns-3 c =
     let powered = c .before in
-    let args = powered .before .before .before .before .before .args in
-    accepts-long _ _ _ (ranged (powered .before .before)) (powered .before .if2 .left)
+    let in-shape = powered .before .before in
+    let args = start in-shape .args in
+    accepts-long _ _ _ (ranged in-shape) (powered .before .if2 .left)
     (λ e. c .if3 .taken (e ∙ table-size (args .h) (args .m) ∙ sym (size-is powered)))
 
 small-requires : tie.Need-small-requires
@@ -55,9 +61,10 @@ small-requires c κs = search needs
 returns-4 : tie.Need-returns-4
 returns-4 c =
     let powered = c .before .before in
-    let args = powered .before .before .before .before .before .args in
+    let in-shape = powered .before .before in
+    let args = start in-shape .args in
     c .small .ensures
-    ∙ accepts-small _ _ _ (ranged (powered .before .before)) (powered .before .if2 .left)
+    ∙ accepts-small _ _ _ (ranged in-shape) (powered .before .if2 .left)
     (c .before .if3 .left ∙ size-is powered ∙ sym (table-size (args .h) (args .m)))
 
 pub takes-spec : {M : Type 1} → statement M

@@ -1,26 +1,20 @@
 -- `tones::lowered` meets its contract: a number below 65,536 less 32,768 fits 16 bits.
 -- Assumes nothing.
-use Prim.Native.Nat.{ℕ, suc, _-_, _<_}
+use Prim.Native.Nat.{ℕ, _<_}
 use native.Mathlib.Omega.{arith}
 use mathlib.Core.Path.{_≡_}
-use mathlib.Core.Bool.{Bool, true, false, cond}
-use lib.Dec.{ltb}
-use lib.IntN.{ℤ, pos, negsuc, _-ℤ_}
+use lib.IntN.{pos, _-ℤ_}
 use lib.Signed.{mag}
 use mir.Syntax.{w16, w32}
 use mir.Val.{SFits, toZ}
 use mir.ValLaws.{toZ-ofZ}
 use borrow.Author.Needs.{needs}
+use Rattle.range.proofs.SumsSigned.{mag-difference}
 use Rattle.tones.proofs.lowered.Statement.{statement}
 use Rattle.tones.proofs.lowered.Tie as tie
 
--- a difference is one of two numbers, and both are small
-by-test : (c : Bool) (x y : ℤ) (w : ℕ) → mag x < w → mag y < w → mag (cond c x y) < w
-by-test true x y w p q = p
-by-test false x y w p q = q
-
 less : (v : ℕ) → v < 65536 → mag (pos v -ℤ pos 32768) < 32768
-less v p = by-test (ltb v 32768) (negsuc (32768 - suc v)) (pos (v - 32768)) 32768 (omega arith) (omega arith)
+less v p = mag-difference v 32768 32768 (omega arith) (omega arith)
 
 -- a small number is read as itself
 read : (v : ℕ) → v < 65536 → toZ w32 v ≡ pos v

@@ -1,8 +1,8 @@
 -- `engine::scan::block` meets its contract: where nothing passes the second best, the standing stays what it is.
 -- Assumes nothing.
+use denote.Ref.{now}
 use borrow.Author.Needs.{needs}
 use borrow.Author.Tests.{not-true}
-use denote.Ref.{now}
 use Rattle.engine.proofs.Counting.{block-kept}
 use Rattle.engine.proofs.scan.block.Statement.{statement}
 use Rattle.engine.proofs.scan.block.Tie as tie

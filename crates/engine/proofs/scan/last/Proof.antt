@@ -14,7 +14,10 @@ use Rattle.engine.proofs.scan.last.Statement.{statement}
 use Rattle.engine.proofs.scan.last.Tie as tie
 
 abbrev Inv-loop : tie.InvT-loop
-Inv-loop q w first table step st₀ label₀ c₀ st label c = (c ≤ q) × (label ≡ first + c * (w * q)) × (st ≡ leadFrom first (byLabel q (w * q) (climbed q 1 w table)) (c * (w * q)) st₀)
+Inv-loop q w first table step st₀ label₀ c₀ st label c =
+    (c ≤ q)
+    × (label ≡ first + c * (w * q))
+    × (st ≡ leadFrom first (byLabel q (w * q) (climbed q 1 w table)) (c * (w * q)) st₀)
 
 abbrev μ-loop : tie.MeasureT-loop
 μ-loop q w first table step st₀ label₀ c₀ st label c = q - c

@@ -23,9 +23,12 @@ abbrev μ-loop : tie.MeasureT-loop
 loop-holds : tie.Need-loop-holds Inv-loop μ-loop
 loop-holds c = (omega arith, λ k l. absurd (not-suc-le-zero l))
 
--- the function's entry
+-- the function's entry, seen from inside the loop, and the turn, seen from behind the test
 abbrev start : tie.In-loop Inv-loop μ-loop → tie.Start Inv-loop μ-loop
 start c = c .before .before .before
+
+abbrev turn : tie.Else1 Inv-loop μ-loop → tie.In-loop Inv-loop μ-loop
+turn c = c .before .before .before .before .before
 
 -- the two runs lie in the table
 first : (c : tie.In-loop Inv-loop μ-loop) → let args = start c .args in
@@ -41,7 +44,7 @@ second c =
     runs-within p (c .wrap .result) (omega (arith, c .wrap .ensures, l))
 
 -- no sum of the two runs passes it
-low : (c : tie.Else1 Inv-loop μ-loop) → let in-loop = c .before .before .before .before .before in
+low : (c : tie.Else1 Inv-loop μ-loop) → let in-loop = turn c in
     let args = start in-loop .args in
     (i : ℕ) → i < args .w →
     pairAt (args .q) 1 (args .w) (now (args .table)) (in-loop .before .loop .s) (args .c) i ≤ args .second
@@ -90,7 +93,7 @@ loop-less c = omega arith
 
 loop-again : tie.Need-loop-again Inv-loop μ-loop
 loop-again c =
-    let in-loop = c .before .before .before .before .before in
+    let in-loop = turn c in
     let at = in-loop .before .loop in
     let args = start in-loop .args in (
       omega (arith, in-loop .loop-test .taken),

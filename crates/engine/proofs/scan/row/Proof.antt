@@ -11,7 +11,10 @@ use Rattle.engine.proofs.scan.row.Statement.{statement}
 use Rattle.engine.proofs.scan.row.Tie as tie
 
 abbrev Inv-loop : tie.InvT-loop
-Inv-loop q w c i first table st₀ label₀ s₀ st label s = (s ≤ q) × (label ≡ first + s) × (st ≡ leadFrom first (λ k. pairAt q 1 w table k c i) s st₀)
+Inv-loop q w c i first table st₀ label₀ s₀ st label s =
+    (s ≤ q)
+    × (label ≡ first + s)
+    × (st ≡ leadFrom first (λ k. pairAt q 1 w table k c i) s st₀)
 
 abbrev μ-loop : tie.MeasureT-loop
 μ-loop q w c i first table st₀ label₀ s₀ st label s = q - s

@@ -14,7 +14,10 @@ use Rattle.engine.proofs.scan.scan.Statement.{statement}
 use Rattle.engine.proofs.scan.scan.Tie as tie
 
 abbrev Inv-loop : tie.InvT-loop
-Inv-loop q w c first table st₀ label₀ i₀ st label i = (i ≤ w) × (label ≡ first + i * q) × (st ≡ leadFrom first (λ j. pairAt q 1 w table (j % q) c (j / q)) (i * q) st₀)
+Inv-loop q w c first table st₀ label₀ i₀ st label i =
+    (i ≤ w)
+    × (label ≡ first + i * q)
+    × (st ≡ leadFrom first (λ j. pairAt q 1 w table (j % q) c (j / q)) (i * q) st₀)
 
 abbrev μ-loop : tie.MeasureT-loop
 μ-loop q w c first table st₀ label₀ i₀ st label i = w - i
@@ -27,8 +30,9 @@ counted : (c : tie.In-loop Inv-loop μ-loop) → let args = c .before .before .b
     c .before .loop .label + args .q ≤ 2 ^ 32
 counted c =
     let at = c .before .loop in
-    let args = c .before .before .before .args in
-    omega (arith, at .inv .1, times-within (at .i) (args .w) (args .q) (c .loop-test .taken), c .before .before .before .pre .1 .1)
+    let s = c .before .before .before in
+    let inside = times-within (at .i) (s .args .w) (s .args .q) (c .loop-test .taken) in
+    omega (arith, at .inv .1, inside, s .pre .1 .1)
 
 row-requires : tie.Need-row-requires Inv-loop μ-loop
 row-requires c κs =
@@ -58,9 +62,9 @@ loop-again c =
 returns : tie.Need-returns Inv-loop μ-loop
 returns c =
     let at = c .before .loop in
-    let e : at .i ≡ c .before .before .before .args .w = omega (arith, at .inv .0, c .loop-test .left) in
-    leadFrom-end _ _ (at .i * c .before .before .before .args .q) _ _ _ (at .inv .2)
-    (ap (λ (n : ℕ). n * c .before .before .before .args .q) e)
+    let args = c .before .before .before .args in
+    let e : at .i ≡ args .w = omega (arith, at .inv .0, c .loop-test .left) in
+    leadFrom-end _ _ (at .i * args .q) _ _ _ (at .inv .2) (ap (λ (n : ℕ). n * args .q) e)
 
 pub scan-spec : {M : Type 1} → statement M
 scan-spec =

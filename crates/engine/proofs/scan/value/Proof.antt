@@ -3,7 +3,6 @@
 use Prim.Native.Nat.{_+_, _*_, _≤_}
 use native.Mathlib.Nat.{mod-lt}
 use native.Mathlib.Omega.{arith}
-use mathlib.Core.Path.{_∙_}
 use lib.ListN.{length}
 use denote.Ref.{now}
 use Rattle.engine.proofs.RunLaws.{runs-within, runs-number, runs-sum, pair-last}
@@ -22,8 +21,9 @@ first c = runs-within (start c .pre .0) (start c .args .s) (omega (arith, start 
 second : (c : tie.After-wrap) → let args = start (c .before .before) .args in
     2 * (c .wrap .result * args .w) + 2 * args .w ≤ length (now (args .table))
 second c =
-    let p = start (c .before .before) .pre .0 in
-    runs-within p (c .wrap .result) (omega (arith, c .wrap .ensures, mod-lt (start (c .before .before) .args .s + start (c .before .before) .args .c) (p .symbols)))
+    let s = start (c .before .before) in
+    let l = mod-lt (s .args .s + s .args .c) (s .pre .0 .symbols) in
+    runs-within (s .pre .0) (c .wrap .result) (omega (arith, c .wrap .ensures, l))
 
 even-run-requires : tie.Need-even-run-requires
 even-run-requires c κs = (start c .pre .0 .run, omega (arith, first c))
@@ -62,9 +62,9 @@ returns : tie.Need-returns
 returns c =
     let wrapped = c .before .before in
     let args = start (wrapped .before .before) .args in
-    c .sum .ensures
-    ∙ rw (wrapped .before .even-run .ensures, c .before .odd-run .ensures, wrapped .wrap .ensures)
-    (pair-last (args .q) (args .w) (now (args .table)) (args .s) (args .c) (args .i))
+    let last = pair-last (args .q) (args .w) (now (args .table)) (args .s) (args .c) (args .i) in
+    rw (← last, ← wrapped .before .even-run .ensures, ← wrapped .wrap .ensures, ← c .before .odd-run .ensures)
+    (c .sum .ensures)
 
 pub value-spec : {M : Type 1} → statement M
 value-spec =

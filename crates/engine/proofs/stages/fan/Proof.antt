@@ -1,6 +1,6 @@
 -- `engine::stages::fan` meets its contract: run after run, each the sum of two runs, number after number.
--- Invariants: the first c runs are written, and b is run t, c symbols further on; of the next run r numbers are written.
--- Measures: the runs and the numbers left.
+-- Invariants: the first c runs are written, and b is run t, c symbols further on; of the next run r numbers are
+-- written. Measures: the runs and the numbers left.
 -- Assumes nothing.
 use Prim.Native.Nat.{ℕ, _+_, _-_, _*_, _%_, _≤_, _<_}
 use native.Mathlib.Nat.{mod-lt, mod-eq-of-lt}
@@ -23,7 +23,11 @@ abbrev μ-loop2 : tie.MeasureT-loop2
 μ-loop2 q half w t o from to₀ n a at b c d r₀ to r = w - r
 
 abbrev Inv-loop : tie.InvT-loop
-Inv-loop q half w t o from to₀ n a at₀ b₀ c₀ to at b c = (c ≤ q) × (at ≡ o + c * w) × (b ≡ (t + c * half) % n) × Written (climbedAt q half w from) to₀ o to at
+Inv-loop q half w t o from to₀ n a at₀ b₀ c₀ to at b c =
+    (c ≤ q)
+    × (at ≡ o + c * w)
+    × (b ≡ (t + c * half) % n)
+    × Written (climbedAt q half w from) to₀ o to at
 
 abbrev μ-loop : tie.MeasureT-loop
 μ-loop q half w t o from to₀ n a at₀ b₀ c₀ to at b c = q - c
@@ -42,9 +46,13 @@ loop-holds c =
     let e : at .args .t + 0 * at .args .half ≡ at .args .t = omega arith in
     (omega arith, omega arith, sym (rw e (mod-eq-of-lt (at .pre .1 .0))), written-none _ _ _)
 
--- the function's entry, seen from inside the loop over runs, and that loop, seen from inside a run and from its end
+-- the function's entry, seen from the loop over runs and from inside it, and that loop, seen from inside a run and from
+-- its end
+abbrev entry : tie.At-loop Inv-loop2 μ-loop2 Inv-loop μ-loop → tie.Start Inv-loop2 μ-loop2 Inv-loop μ-loop
+entry c = c .before .before .before .before
+
 abbrev start : tie.In-loop Inv-loop2 μ-loop2 Inv-loop μ-loop → tie.Start Inv-loop2 μ-loop2 Inv-loop μ-loop
-start c = c .before .before .before .before .before
+start c = entry (c .before)
 
 abbrev turn : tie.In-loop2 Inv-loop2 μ-loop2 Inv-loop μ-loop → tie.In-loop Inv-loop2 μ-loop2 Inv-loop μ-loop
 turn c = c .before .before .before
@@ -62,7 +70,8 @@ number : (c : tie.In-loop Inv-loop2 μ-loop2 Inv-loop μ-loop) → let args = st
 number c =
     let at = c .before .loop in
     let args = start c .args in
-    omega (arith, at .inv .2, mod-lt (args .t + at .c * args .half) {m = args .q * args .half} (omega (arith, start c .pre .1 .0)))
+    let some : 0 < args .q * args .half = omega (arith, start c .pre .1 .0) in
+    omega (arith, at .inv .2, mod-lt (args .t + at .c * args .half) some)
 
 second : (c : tie.In-loop Inv-loop2 μ-loop2 Inv-loop μ-loop) → let args = start c .args in
     2 * (c .before .loop .b * args .w) + 2 * args .w ≤ length (now (args .from))
@@ -109,7 +118,8 @@ summed c =
     c .sum .ensures
     ∙ climbedAt-sum (args .q) (args .half) (args .w) (now (args .from)) (args .t) (loop .c) (in-run .before .loop2 .r)
     (args .o) (loop .at) _ (loop .b) _ (turn in-run .loop-test .taken) (in-run .loop2-test .taken) (pre .1)
-    (loop .inv .1) (turn in-run .before .before .even-run .ensures) (loop .inv .2) (in-run .before .before .odd-run .ensures)
+    (loop .inv .1) (turn in-run .before .before .even-run .ensures) (loop .inv .2)
+    (in-run .before .before .odd-run .ensures)
 
 odd-run-requires : tie.Need-odd-run-requires Inv-loop2 μ-loop2 Inv-loop μ-loop
 odd-run-requires c κs = (start c .pre .0 .run, omega (arith, second c))
@@ -193,37 +203,14 @@ same-length c = c .before .loop .inv .3 .sized
 returns : tie.Need-returns Inv-loop2 μ-loop2 Inv-loop μ-loop
 returns c =
     let at = c .before .loop in
-    let args = c .before .before .before .before .before .args in
+    let args = entry (c .before) .args in
     let e : at .c ≡ args .q = omega (arith, at .inv .0, c .loop-test .left) in
-    subst (Written _ (now (args .to)) (args .o) (at .to)) (at .inv .1 ∙ ap (λ (k : ℕ). args .o + k * args .w) e) (at .inv .3)
+    let n : at .at ≡ args .o + args .q * args .w = at .inv .1 ∙ ap (λ (k : ℕ). args .o + k * args .w) e in
+    subst (Written _ (now (args .to)) (args .o) (at .to)) n (at .inv .3)
 
 pub fan-spec : {M : Type 1} → statement M
 fan-spec =
     tie.close
-    (tie.spec
-    Inv-loop2
-    μ-loop2
-    Inv-loop
-    μ-loop
-    mul-n
-    even-run-requires
-    loop-holds
-    odd-run-requires
-    loop2-holds
-    add-sum
-    add-sum-2
-    sum-requires
-    add-to
-    mul-to
-    slice-write-to
-    add-r
-    loop2-less
-    loop2-again
-    add-at
-    add-wrap
-    wrap-requires
-    add-c
-    loop-less
-    loop-again
-    same-length
-    returns)
+    (tie.spec Inv-loop2 μ-loop2 Inv-loop μ-loop mul-n even-run-requires loop-holds odd-run-requires loop2-holds add-sum
+    add-sum-2 sum-requires add-to mul-to slice-write-to add-r loop2-less loop2-again add-at add-wrap wrap-requires add-c
+    loop-less loop-again same-length returns)

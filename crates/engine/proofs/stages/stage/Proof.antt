@@ -19,41 +19,45 @@ done : (q half : ℕ) (xs : List ℕ) {w v : ℕ} {after : List ℕ} → w ≡ v
     after ≡ climbed q half w xs
 done q half xs {after = after} e = subst (λ (u : ℕ). after ≡ climbed q half u xs) (sym e)
 
+-- the function's entry, seen from before the tests
+abbrev start : tie.After-slice-known → tie.Start
+start c = c .before .before
+
 pass-requires : tie.Need-pass-requires
-pass-requires c κs = asked (c .before .if1 .taken) (c .before .before .before .before .pre)
+pass-requires c κs = asked (c .before .if1 .taken) (start (c .before .before) .pre)
 
 same-length : tie.Need-same-length
 same-length c = search needs
 
 returns : tie.Need-returns
 returns c =
-    let args = c .before .before .before .before .before .before .before .args in
-    done (args .q) (args .half) (now (args .from)) (c .before .before .before .before .if1 .taken)
-    (c .before .before .pass .ensures)
+    let test = c .before .before .before .before in
+    let args = start (test .before) .args in
+    done (args .q) (args .half) (now (args .from)) (test .if1 .taken) (c .before .before .pass .ensures)
 
 pass-requires-2 : tie.Need-pass-requires-2
-pass-requires-2 c κs = asked (c .before .if2 .taken) (c .before .before .before .before .before .pre)
+pass-requires-2 c κs = asked (c .before .if2 .taken) (start (c .before .before .before) .pre)
 
 same-length-2 : tie.Need-same-length-2
 same-length-2 c = search needs
 
 returns-2 : tie.Need-returns-2
 returns-2 c =
-    let args = c .before .before .before .before .before .before .before .before .args in
-    done (args .q) (args .half) (now (args .from)) (c .before .before .before .before .if2 .taken)
-    (c .before .before .pass2 .ensures)
+    let test = c .before .before .before .before in
+    let args = start (test .before .before) .args in
+    done (args .q) (args .half) (now (args .from)) (test .if2 .taken) (c .before .before .pass2 .ensures)
 
 pass-requires-3 : tie.Need-pass-requires-3
-pass-requires-3 c κs = asked (c .before .if3 .taken) (c .before .before .before .before .before .before .pre)
+pass-requires-3 c κs = asked (c .before .if3 .taken) (start (c .before .before .before .before) .pre)
 
 same-length-3 : tie.Need-same-length-3
 same-length-3 c = search needs
 
 returns-3 : tie.Need-returns-3
 returns-3 c =
-    let args = c .before .before .before .before .before .before .before .before .before .args in
-    done (args .q) (args .half) (now (args .from)) (c .before .before .before .before .if3 .taken)
-    (c .before .before .pass3 .ensures)
+    let test = c .before .before .before .before in
+    let args = start (test .before .before .before) .args in
+    done (args .q) (args .half) (now (args .from)) (test .if3 .taken) (c .before .before .pass3 .ensures)
 
 pass-requires-4 : tie.Need-pass-requires-4
 pass-requires-4 c κs = search needs

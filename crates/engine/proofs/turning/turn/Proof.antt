@@ -26,12 +26,15 @@ loop-holds c = (omega arith, written-zero _ _ _)
 shared-slice-read-index : tie.Need-shared-slice-read-index Inv-loop μ-loop
 shared-slice-read-index c = omega arith
 
--- the turn of the loop, seen from behind the symbol, and the function's entry
+-- the turn of the loop, seen from behind the symbol, and the function's entry, seen from the loop and from inside it
 abbrev turned : tie.After-index Inv-loop μ-loop → tie.In-loop Inv-loop μ-loop
 turned c = c .before .before
 
+abbrev entry : tie.At-loop Inv-loop μ-loop → tie.Start Inv-loop μ-loop
+entry c = c .before .before .before .before
+
 abbrev start : tie.In-loop Inv-loop μ-loop → tie.Start Inv-loop μ-loop
-start c = c .before .before .before .before .before
+start c = entry (c .before)
 
 symbol : (c : tie.In-loop Inv-loop μ-loop) → let args = start c .args in
     getD (now (args .word)) (c .before .loop .i) 0 < args .q
@@ -48,9 +51,15 @@ inside : (c : tie.After-wrap Inv-loop μ-loop) → let in-loop = turned (c .befo
 inside c =
     let in-loop = turned (c .before) in
     let args = start in-loop .args in
+    let some : 0 < args .q = omega (arith, start in-loop .pre .1 .0) in
     let l : c .wrap .result < args .q =
-    omega (arith, c .wrap .ensures, mod-lt (args .s + c .before .index .result) {m = args .q} (omega (arith, start in-loop .pre .1 .0))) in
-    omega (arith, times-within (c .wrap .result) (args .q) (length (now (args .word))) l, in-loop .loop-test .taken, start in-loop .pre .0 .long)
+    omega (arith, c .wrap .ensures, mod-lt (args .s + c .before .index .result) some) in
+    omega (
+      arith,
+      times-within (c .wrap .result) (args .q) (length (now (args .word))) l,
+      in-loop .loop-test .taken,
+      start in-loop .pre .0 .long,
+    )
 
 place : (c : tie.In-loop Inv-loop μ-loop) → start c .args .o + c .before .loop .i < length (c .before .loop .to)
 place c =
@@ -132,30 +141,12 @@ same-length c = c .before .loop .inv .1 .sized
 returns : tie.Need-returns Inv-loop μ-loop
 returns c =
     let at = c .before .loop in
-    let args = c .before .before .before .before .before .args in
+    let args = entry (c .before) .args in
     let e : at .i ≡ length (now (args .word)) = omega (arith, at .inv .0, c .loop-test .left) in
     subst (Written _ (now (args .to)) (args .o) (at .to)) (ap (λ (n : ℕ). args .o + n) e) (at .inv .1)
 
 pub turn-spec : {M : Type 1} → statement M
 turn-spec =
     tie.close
-    (tie.spec
-    Inv-loop
-    μ-loop
-    loop-holds
-    shared-slice-read-index
-    index-requires
-    add-wrap
-    wrap-requires
-    mul-to
-    add-to
-    mul-to-2
-    shared-slice-read-to
-    add-to-2
-    mul-to-3
-    slice-write-to
-    add-i
-    loop-less
-    loop-again
-    same-length
-    returns)
+    (tie.spec Inv-loop μ-loop loop-holds shared-slice-read-index index-requires add-wrap wrap-requires mul-to add-to
+    mul-to-2 shared-slice-read-to add-to-2 mul-to-3 slice-write-to add-i loop-less loop-again same-length returns)
