@@ -8,7 +8,7 @@ use native.Mathlib.Nat.{mul-le-mul, le-refl}
 use native.Mathlib.Decide.{decLt}
 use native.Mathlib.Omega.{arith}
 use mathlib.Core.Path.{_≡_, sym, _∙_, ap, subst}
-use mathlib.Core.Bool.{true}
+use mathlib.Core.Bool.{Bool, true}
 use mathlib.Core.List.{List}
 use lib.Dec.{leb, lit≤}
 use lib.IntN.{ℤ, pos, _-ℤ_}
@@ -26,11 +26,12 @@ use Rattle.rules.specs.Word.{symbolAt}
 use Rattle.rules.specs.Best.{Best}
 use Rattle.rules.specs.Outcome.{allowed}
 use Rattle.rules.specs.Refusal.{softRefusal, hardRefusal}
+use Rattle.rules.specs.Decoding.{Loud, Near}
 use Rattle.rules.proofs.Range.{inShape-range}
 use Rattle.rules.proofs.Silence.{labels-two}
 use Rattle.words.proofs.Labels.{labelOf-messageOf, messageOf-lt}
 use Rattle.totals.specs.Totals.{totalOf}
-use Rattle.totals.specs.Gains.{loudest, softGain, hardGain, tableOf}
+use Rattle.totals.specs.Gains.{raiseBy, softGain, hardGain, tableOf}
 use Rattle.totals.proofs.SoftTotals.{softGain-le}
 use Rattle.totals.proofs.HardTotals.{hardGain-le}
 use Rattle.totals.proofs.Answers.{soft-greatest, hard-nearest}
@@ -39,9 +40,6 @@ use Rattle.standing.specs.Lead.{tiedOf}
 use Rattle.standing.proofs.Leading.{lead-best}
 use Rattle.engine.specs.Search.{mostGain, accepts, searched}
 use Rattle.engine.proofs.Accepting.{accepts-small, searched-is}
-use Rattle.decoder.specs.declared.Loudest.{Loudest}
-use Rattle.decoder.specs.declared.Closest.{Closest}
-use Rattle.decoder.specs.Told.{Loud, Near}
 
 -- st has the best total of the gains f, and it is no greater than b at every place
 abbrev Leads : ℕ → ℕ → ℕ → (ℕ → ℕ → ℕ) → Standing → Type 0
@@ -96,21 +94,21 @@ module _ (h m : ℕ) (ok : inShape h m ≡ true) (two : h ≤ 2) (st : Standing)
     label-back : st .label ≡ labelOf h m g
     label-back = sym (ap (labelOf h m) e ∙ labelOf-messageOf h m (st .label))
 
-  module _ (ys : List ℤ) (small : (k : ℕ) → mag (entry ys k) < loudest)
+  module _ (ys : List ℤ) (small : (k : ℕ) → mag (entry ys k) < raiseBy)
       (q : st ≡ searched h m (tableOf h m (softGain h ys))) where
-    heard : Leads h m (2 * loudest) (softGain h ys) st
-    heard = search-leads h m (2 * loudest) (softGain h ys) (softGain-le h ys small) ok two (lit≤ tt) st q
+    heard : Leads h m (2 * raiseBy) (softGain h ys) st
+    heard = search-leads h m (2 * raiseBy) (softGain h ys) (softGain-le h ys small) ok two (lit≤ tt) st q
 
     pub soft-best-le : st .best ≤ 2 ^ 30
     soft-best-le =
-        omega (arith, heard .1, mul-le-mul carriers-le (le-refl (2 * loudest)))
+        omega (arith, heard .1, mul-le-mul carriers-le (le-refl (2 * raiseBy)))
 
-    pub soft-found : (a : Loudest) → softRefusal h m ys ≡ allowed → a .message .0 ≡ messageOf h m (st .label) →
-        a .correlation ≡ pos (st .best) -ℤ pos (carriers m * loudest) → a .tied ≡ tiedOf st → Loud h m ys a
-    soft-found a taken e v t = record {
+    pub soft-found : (g : ℕ) (v : ℤ) (t : Bool) → softRefusal h m ys ≡ allowed → g ≡ messageOf h m (st .label) →
+        v ≡ pos (st .best) -ℤ pos (carriers m * raiseBy) → t ≡ tiedOf st → Loud h m ys g v t
+    soft-found g v t taken e p q = record {
       taken = taken;
-      inside = message-inside (a .message .0) e (heard .0 .inside);
-      greatest = rw (sym (label-back (a .message .0) e), v, t)
+      inside = message-inside g e (heard .0 .inside);
+      greatest = rw (sym (label-back g e), p, q)
           (soft-greatest h m ys (st .label) (st .best) (tiedOf st) one two small (heard .0));
     }
 
@@ -125,11 +123,11 @@ module _ (h m : ℕ) (ok : inShape h m ≡ true) (two : h ≤ 2) (st : Standing)
     pub hard-best-le : st .best ≤ carriers m * halfTurn h
     hard-best-le = matched .1
 
-    pub hard-found : (a : Closest) → hardRefusal h m w ≡ allowed → a .message .0 ≡ messageOf h m (st .label) →
-        a .distance ≡ carriers m * halfTurn h - st .best → a .tied ≡ tiedOf st → Near h m w a
-    hard-found a taken e v t = record {
+    pub hard-found : (g d : ℕ) (t : Bool) → hardRefusal h m w ≡ allowed → g ≡ messageOf h m (st .label) →
+        d ≡ carriers m * halfTurn h - st .best → t ≡ tiedOf st → Near h m w g d t
+    hard-found g d t taken e p q = record {
       taken = taken;
-      inside = message-inside (a .message .0) e (matched .0 .inside);
-      nearest = rw (sym (label-back (a .message .0) e), v, t)
+      inside = message-inside g e (matched .0 .inside);
+      nearest = rw (sym (label-back g e), p, q)
           (hard-nearest h m w (st .label) (st .best) (tiedOf st) one inside (matched .0));
     }

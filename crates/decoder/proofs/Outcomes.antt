@@ -22,6 +22,7 @@ use Rattle.rules.specs.Soft.{softLength, correlation}
 use Rattle.rules.specs.Outcome.{refuses, allowed}
 use Rattle.rules.specs.Table.{badSymbol}
 use Rattle.rules.specs.Refusal.{softRefusal, hardRefusal}
+use Rattle.rules.specs.Decoding.{Loud, Near}
 use Rattle.rules.proofs.BestLaws.{best-unique}
 use Rattle.rules.proofs.OutcomeLaws.{gives-not-refuses}
 use Rattle.kinds.proofs.ToldLaws.{refusalTold-inj}
@@ -32,7 +33,7 @@ use Rattle.decoder.specs.declared.Heard.{Heard}
 use Rattle.decoder.specs.declared.Heard.the-variants.{Found as Heard·Found, Refused as Heard·Refused}
 use Rattle.decoder.specs.declared.Matched.{Matched}
 use Rattle.decoder.specs.declared.Matched.the-variants.{Found as Matched·Found, Refused as Matched·Refused}
-use Rattle.decoder.specs.Told.{Loud, Hears, Near, Matches}
+use Rattle.decoder.specs.Told.{Hears, Matches}
 
 module _ (h m : ℕ) (ys : List ℤ) where
   pub soft-shape : inShape h m ≡ false → softRefusal h m ys ≡ refuses 1 []
@@ -87,7 +88,11 @@ labelOf-inj : (h m g k : ℕ) → labelOf h m g ≡ labelOf h m k → g ≡ k
 labelOf-inj h m g k e = sym (messageOf-labelOf h m g) ∙ ap (messageOf h m) e ∙ messageOf-labelOf h m k
 
 module _ (h m : ℕ) (ys : List ℤ) where
-  loud-unique : (a b : Loudest) → Loud h m ys a → Loud h m ys b → a ≡ b
+  -- the answer as the rules tell it
+  abbrev LoudOf : Loudest → Type 0
+  LoudOf a = Loud h m ys (a .message .0) (a .correlation) (a .tied)
+
+  loud-unique : (a b : Loudest) → LoudOf a → LoudOf b → a ≡ b
   loud-unique a b p q =
       let e = best-unique (labels h m) leZ (correlation h m ys) leZ-antisymm _ _ (a .correlation) (b .correlation)
       (a .tied) (b .tied) (p .greatest) (q .greatest) in
@@ -107,7 +112,10 @@ module _ (h m : ℕ) (ys : List ℤ) where
   hears-found (Heard·Refused s) p e = absurd (gives-not-refuses (sym e ∙ p))
 
 module _ (h m : ℕ) (w : List ℕ) where
-  near-unique : (a b : Closest) → Near h m w a → Near h m w b → a ≡ b
+  abbrev NearOf : Closest → Type 0
+  NearOf a = Near h m w (a .message .0) (a .distance) (a .tied)
+
+  near-unique : (a b : Closest) → NearOf a → NearOf b → a ≡ b
   near-unique a b p q =
       let e = best-unique (labels h m) (λ x y. leb y x) (λ k. distance h (carriers m) (symbolAt w) (wordAt h m k))
       (λ x y s t. le-antisymm (leb→le x y t) (leb→le y x s)) _ _ (a .distance) (b .distance) (a .tied) (b .tied)

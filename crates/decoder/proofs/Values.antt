@@ -14,21 +14,21 @@ use lib.IntN.{ℤ, pos}
 use lib.ListN.{length, List·getD-eq-default}
 use lib.Signed.{mag}
 use Rattle.range.specs.Signed.{entry}
-use Rattle.totals.specs.Gains.{loudest}
+use Rattle.totals.specs.Gains.{raiseBy}
 
 abbrev pub SmallAt : ℕ → ℕ → List ℤ → ℕ → Type 0
-SmallAt half n ys e = e / n < half → mag (entry ys (half * (e % n) + e / n)) < loudest
+SmallAt half n ys e = e / n < half → mag (entry ys (half * (e % n) + e / n)) < raiseBy
 
 module _ (half n : ℕ) (ys : List ℤ) (some : 0 < half) (l : length ys ≡ half * n)
     (read : (e : ℕ) → e < half * n → SmallAt half n ys e) where
   -- value s of place i is the one of number s n + i
-  small-at : (i s : ℕ) → i < n → s < half → mag (entry ys (half * i + s)) < loudest
+  small-at : (i s : ℕ) → i < n → s < half → mag (entry ys (half * i + s)) < raiseBy
   small-at i s a b = (rw (digits-div s a, digits-mod s a) at (read (s * n + i) (digits-lt b a))) b
 
-  pub small-all : (k : ℕ) → mag (entry ys k) < loudest
+  pub small-all : (k : ℕ) → mag (entry ys k) < raiseBy
   small-all k = by (decLt k (length ys))
     where
-      by : Dec (k < length ys) → mag (entry ys k) < loudest
+      by : Dec (k < length ys) → mag (entry ys k) < raiseBy
       by (yes b) =
           let a : k / half < n = div-lt-iff-lt-mul some .1 (omega (arith, l, mul-comm half n)) in
           let e : half * (k / half) + k % half ≡ k =

@@ -18,15 +18,16 @@ ghost use Rattle.rules.specs.Shape.{inShape, phases, halfTurn, carriers};
 ghost use Rattle.rules.specs.Label.{messageOf};
 ghost use Rattle.rules.specs.Outcome.{allowed};
 ghost use Rattle.rules.specs.Refusal.{softRefusal, hardRefusal};
-ghost use Rattle.totals.specs.Gains.{loudest, raised, softGain, hardGain, nearness, tableOf};
+ghost use Rattle.rules.specs.Decoding.{Loud, Near};
+ghost use Rattle.totals.specs.Gains.{raiseBy, raised, softGain, hardGain, nearness, tableOf};
 ghost use Rattle.standing.specs.Lead.{tiedOf};
-ghost use Rattle.decoder.specs.Told.{Loud, Hears, Near, Matches};
+ghost use Rattle.decoder.specs.Told.{Hears, Matches};
 
 // The greatest table of gains: a run of places for each of four symbols.
 const GAINS: usize = PLACES * 4;
 
 // What a soft value is raised by, so that it is never below zero: the size of the least of them.
-const LOUDEST: i32 = 32768;
+const RAISE_BY: i32 = 32768;
 
 // The word of greatest correlation: its message, its correlation, and whether another word has it too.
 pub struct Loudest {
@@ -103,7 +104,7 @@ pub fn hard(h: u32, m: u32, word: &[u8]) -> Matched
 fn hear(h: u32, m: u32, values: &[i16], gains: &mut [u32]) -> Loudest
     requires { ⌜ softRefusal h m (now values) ≡ allowed ⌝ }
     requires { ⌜ length (now gains) ≡ phases h * carriers m ⌝ }
-    ensures { λ r. ⌜ Loud h m (now (values .entry)) r ⌝ }
+    ensures { λ r. ⌜ Loud h m (now (values .entry)) (r .message .0) (r .correlation) (r .tied) ⌝ }
 {
     raise(h, m, values, gains);
     as_correlation(h, m, engine::search(h, m, gains))
@@ -113,7 +114,7 @@ fn hear(h: u32, m: u32, values: &[i16], gains: &mut [u32]) -> Loudest
 fn weigh(h: u32, m: u32, word: &[u8], gains: &mut [u32]) -> Closest
     requires { ⌜ hardRefusal h m (now word) ≡ allowed ⌝ }
     requires { ⌜ length (now gains) ≡ phases h * carriers m ⌝ }
-    ensures { λ r. ⌜ Near h m (now (word .entry)) r ⌝ }
+    ensures { λ r. ⌜ Near h m (now (word .entry)) (r .message .0) (r .distance) (r .tied) ⌝ }
 {
     compare(h, m, word, gains);
     as_distance(h, m, engine::search(h, m, gains))
@@ -125,7 +126,7 @@ fn raise(h: u32, m: u32, values: &[i16], gains: &mut [u32])
     requires { ⌜ length (now values) ≡ halfTurn h * carriers m ⌝ }
     requires { ⌜ length (now gains) ≡ phases h * carriers m ⌝ }
     ensures { λ _. ⌜ now (gains .exit) ≡ tableOf h m (softGain h (now (values .entry))) ⌝ }
-    ensures { λ _. ⌜ ((k : ℕ) → mag (entry (now (values .entry)) k) < loudest) ⌝ }
+    ensures { λ _. ⌜ ((k : ℕ) → mag (entry (now (values .entry)) k) < raiseBy) ⌝ }
 {
     let n = shape::power(m) as usize;
     let half = shape::power(h - 1) as usize;
@@ -140,7 +141,7 @@ fn raise(h: u32, m: u32, values: &[i16], gains: &mut [u32])
 fn soft_gain(half: usize, values: &[i16], i: usize, s: usize) -> u32
     requires { ⌜ (s < half + half) × (half * i + half ≤ length (now values)) ⌝ }
     ensures { λ r. ⌜ ((h : ℕ) → half ≡ halfTurn h → r ≡ softGain h (now (values .entry)) i s) ⌝ }
-    ensures { λ _. ⌜ (s < half → mag (entry (now (values .entry)) (half * i + s)) < loudest) ⌝ }
+    ensures { λ _. ⌜ (s < half → mag (entry (now (values .entry)) (half * i + s)) < raiseBy) ⌝ }
 {
     if s < half {
         return raised(values[half * i + s]);
@@ -152,13 +153,13 @@ fn soft_gain(half: usize, values: &[i16], i: usize, s: usize) -> u32
 fn raised(y: i16) -> u32
     ensures { λ r. ⌜ r ≡ raised y ⌝ }
 {
-    (LOUDEST + y as i32) as u32
+    (RAISE_BY + y as i32) as u32
 }
 
 fn lowered(y: i16) -> u32
-    ensures { λ r. ⌜ r ≡ 2 * loudest - raised y ⌝ }
+    ensures { λ r. ⌜ r ≡ 2 * raiseBy - raised y ⌝ }
 {
-    (LOUDEST - y as i32) as u32
+    (RAISE_BY - y as i32) as u32
 }
 
 // Fills a table with the gains of symbols.
@@ -189,30 +190,31 @@ fn hard_gain(q: u64, a: u8, s: u8) -> u32
     (d - q / 2) as u32
 }
 
-// The answer of a search: of the greatest total, and the correlation that it stands for.
+// What soft decoding answers of a search: the message of the greatest total, and the correlation that the total stands
+// for.
 fn as_correlation(h: u32, m: u32, st: Standing) -> Loudest
     requires { ⌜ (inShape h m ≡ true) × (st .best ≤ 2 ^ 30) ⌝ }
     ensures { λ r. ⌜ (r .message .0 ≡ messageOf h m (st .label))
-        × (r .correlation ≡ pos (st .best) -ℤ pos (carriers m * loudest)) × (r .tied ≡ tiedOf st) ⌝ }
+        × (r .correlation ≡ pos (st .best) -ℤ pos (carriers m * raiseBy)) × (r .tied ≡ tiedOf st) ⌝ }
 {
     let n = shape::power(m) as i32;
     Loudest {
         message: shape::message_of(h, m, st.label),
-        correlation: st.best as i32 - n * LOUDEST,
+        correlation: st.best as i32 - n * RAISE_BY,
         tied: st.best == st.second,
     }
 }
 
-// The same, with the distance that it stands for.
-fn as_distance(h: u32, m: u32, st: Standing) -> Closest
-    requires { ⌜ (inShape h m ≡ true) × (st .best ≤ carriers m * halfTurn h) ⌝ }
-    ensures { λ r. ⌜ (r .message .0 ≡ messageOf h m (st .label))
-        × (r .distance ≡ carriers m * halfTurn h - st .best) × (r .tied ≡ tiedOf st) ⌝ }
+// What hard decoding answers of a search: the message of the greatest total, and the distance that the total stands for.
+fn as_distance(h: u32, m: u32, led: Standing) -> Closest
+    requires { ⌜ (inShape h m ≡ true) × (led .best ≤ carriers m * halfTurn h) ⌝ }
+    ensures { λ r. ⌜ (r .message .0 ≡ messageOf h m (led .label))
+        × (r .distance ≡ carriers m * halfTurn h - led .best) × (r .tied ≡ tiedOf led) ⌝ }
 {
     let most = shape::power(h - 1 + m) as u32;
     Closest {
-        message: shape::message_of(h, m, st.label),
-        distance: most - st.best,
-        tied: st.best == st.second,
+        message: shape::message_of(h, m, led.label),
+        distance: most - led.best,
+        tied: led.best == led.second,
     }
 }

@@ -18,10 +18,11 @@ use mathlib.Core.Bool.{true}
 use mathlib.Core.List.{List}
 use lib.ListN.{length, getD, take}
 use Rattle.rules.specs.Shape.{greatestM, inShape, phases, carriers, pathsInUse}
+use Rattle.engine.specs.Search.{greatestDecoded}
 
--- 2 q^m for the most symbols and the greatest m
+-- 2 q^m for the most symbols that are decoded and the greatest m
 abbrev pub area : ℕ
-area = 2 * phases 2 ^ greatestM
+area = 2 * phases greatestDecoded ^ greatestM
 
 abbrev pub mostTotal : ℕ
 mostTotal = 2 ^ 31
@@ -55,7 +56,7 @@ pub record Areas (m : ℕ) (w xs ys : List ℕ) : Type 0 where
 
 pub record Paths (h m q half size uses : ℕ) (g w xs ys : List ℕ) : Type 0 where
   pub shape : inShape h m ≡ true
-  pub few : h ≤ 2
+  pub few : h ≤ greatestDecoded
   pub symbols : q ≡ phases h
   pub halved : half ≡ 2 ^ (m - 1)
   pub sized : size ≡ phases h ^ (m + 1)

@@ -12,5 +12,6 @@ pub mod Spectrum
 pub mod Outcome
 pub mod Table
 pub mod Refusal
+pub mod Decoding
 pub mod Areas
 pub mod Known

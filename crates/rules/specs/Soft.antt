@@ -5,6 +5,7 @@
 --           heardFour re im s      for h = 2: re, im, -re, -im for symbols 0, 1, 2, 3, which stand at 1, j, -1, -j
 --           heard h ys i s         what symbol s adds at place i; for h = 2 the real part stands before the imaginary
 --           correlation h m ys l   the sum over places for label l's word; nothing is divided
+--           cleanAt h a w j        soft value j of symbols w at amplitude a, with no noise
 --           clean h m a w          the soft values of symbols w at amplitude a, with no noise; unit soft values are
 --                                  those at amplitude 1
 -- Assumes nothing: these are definitions.

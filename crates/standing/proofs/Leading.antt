@@ -1,5 +1,5 @@
 -- What the standing says of the labels gone through: the best, the earliest that has it, and the second best. In order:
--- the first label; one more label, in the three cases of better; after all of them;
+-- one more label, in the three cases of better; the first label; after all of them;
 -- the standing is rules' Best, so that going through the labels in their order is enough.
 -- Not here: stretches of labels (Lead).  Assumes nothing.
 use Prim.Native.Nat.{ℕ, zero, suc, _≤_, _<_, zero-le}

@@ -20,7 +20,7 @@ use Rattle.rules.specs.Soft.{correlation}
 use Rattle.rules.specs.Best.{Best, Greatest, Nearest}
 use Rattle.rules.proofs.BestLaws.{best-map}
 use Rattle.totals.specs.Totals.{totalOf}
-use Rattle.totals.specs.Gains.{loudest, softGain, hardGain, tableOf}
+use Rattle.totals.specs.Gains.{raiseBy, softGain, hardGain, tableOf}
 use Rattle.totals.proofs.SoftTotals.{soft-total}
 use Rattle.totals.proofs.HardTotals.{hard-total}
 
@@ -47,11 +47,11 @@ best-rest n c total far whole l v tied p =
     subst (λ (d : ℕ). Best n (λ a b. leb b a) far l d tied) e q
 
 pub soft-greatest : (h m : ℕ) (ys : List ℤ) (l v : ℕ) (tied : Bool) → 1 ≤ h → h ≤ 2 →
-    ((k : ℕ) → mag (entry ys k) < loudest) →
+    ((k : ℕ) → mag (entry ys k) < raiseBy) →
     Best (labels h m) leb (totalOf h m (tableOf h m (softGain h ys))) l v tied →
-    Greatest h m ys l (pos v -ℤ pos (carriers m * loudest)) tied
+    Greatest h m ys l (pos v -ℤ pos (carriers m * raiseBy)) tied
 soft-greatest h m ys l v tied one two small =
-    best-shift (labels h m) (carriers m * loudest) (totalOf h m (tableOf h m (softGain h ys))) (correlation h m ys)
+    best-shift (labels h m) (carriers m * raiseBy) (totalOf h m (tableOf h m (softGain h ys))) (correlation h m ys)
     (λ k. soft-total h ys small m k one two) l v tied
 
 pub hard-nearest : (h m : ℕ) (w : List ℕ) (l v : ℕ) (tied : Bool) → 1 ≤ h →

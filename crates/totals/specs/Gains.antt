@@ -1,6 +1,6 @@
 -- The gains of soft values and of symbols, for two and four phases: natural numbers, greater where a symbol fits
 -- better.
--- Defines:  loudest            the size of the least sixteen-bit number
+-- Defines:  raiseBy            32,768, the size of the least soft value: what a soft value is raised by
 --           raised z           z + 32,768, for a sixteen-bit number z
 --           softGain h ys i s  32,768 plus what symbol s adds to the correlation at place i
 --           nearness h a s     half a turn less the Lee distance of the symbols a and s
@@ -20,17 +20,17 @@ use Rattle.rules.specs.Word.{symbolAt}
 use Rattle.rules.specs.Pair.{minus}
 use Rattle.rules.specs.Distance.{leeOf}
 
-abbrev pub loudest : ℕ
-loudest = 32768
+abbrev pub raiseBy : ℕ
+raiseBy = 32768
 
 abbrev pub raised : ℤ → ℕ
-raised (pos a) = loudest + a
-raised (negsuc a) = loudest - suc a
+raised (pos a) = raiseBy + a
+raised (negsuc a) = raiseBy - suc a
 
 unfoldable pub softGain : ℕ → List ℤ → ℕ → ℕ → ℕ
 softGain h ys i s =
     cond (ltb s (halfTurn h)) (raised (entry ys (halfTurn h * i + s)))
-    (2 * loudest - raised (entry ys (halfTurn h * i + (s - halfTurn h))))
+    (2 * raiseBy - raised (entry ys (halfTurn h * i + (s - halfTurn h))))
 
 unfoldable pub nearness : ℕ → ℕ → ℕ → ℕ
 nearness h a s = halfTurn h - leeOf h (minus (phases h) a s)

@@ -13,7 +13,7 @@ use Rattle.range.proofs.SumsSigned.{mag-difference}
 use Rattle.rules.specs.Shape.{carriers, greatestM}
 use Rattle.rules.proofs.Range.{inShape-range, carriers-most}
 use Rattle.shape.proofs.Powers.{power-carriers}
-use Rattle.totals.specs.Gains.{loudest}
+use Rattle.totals.specs.Gains.{raiseBy}
 use Rattle.decoder.proofs.Casts.{natural-fits, natural-is}
 use Rattle.decoder.proofs.as_correlation.Statement.{statement}
 use Rattle.decoder.proofs.as_correlation.Tie as tie
@@ -42,21 +42,21 @@ abbrev best : tie.After-power → ℕ
 best c = c .before .args .st .best
 
 abbrev raise : tie.After-power → ℕ
-raise c = carriers (c .before .args .m) * loudest
+raise c = carriers (c .before .args .m) * raiseBy
 
-raise-most : (c : tie.After-power) → raise c ≤ carriers greatestM * loudest
+raise-most : (c : tie.After-power) → raise c ≤ carriers greatestM * raiseBy
 raise-most c = omega (arith, places-most c)
 
 -- the product and the difference, as the locals hold them
-product : (c : tie.After-power) → pos (raise c) ≡ toZ w32 (c .power .result) *ℤ pos loudest
+product : (c : tie.After-power) → pos (raise c) ≡ toZ w32 (c .power .result) *ℤ pos raiseBy
 product c = sym (rw (toZ-pos w32 (c .power .result) (cast-n c .sfits), places c))
 
 difference : (c : tie.After-power) →
-    toZ w32 (best c) -ℤ toZ w32 (ofZ w32 (toZ w32 (c .power .result) *ℤ pos loudest)) ≡ pos (best c) -ℤ pos (raise c)
+    toZ w32 (best c) -ℤ toZ w32 (ofZ w32 (toZ w32 (c .power .result) *ℤ pos raiseBy)) ≡ pos (best c) -ℤ pos (raise c)
 difference c =
     rw (
       toZ-pos w32 (best c) (omega (arith, c .before .pre .1)),
-      natural-is (toZ w32 (c .power .result) *ℤ pos loudest) (raise c) (product c) (omega (arith, raise-most c)),
+      natural-is (toZ w32 (c .power .result) *ℤ pos raiseBy) (raise c) (product c) (omega (arith, raise-most c)),
     )
 
 difference-fits : (c : tie.After-power) → SFits w32 (pos (best c) -ℤ pos (raise c))
@@ -67,7 +67,7 @@ difference-fits c = record {
 mul-t8 : tie.Need-mul-t8
 mul-t8 c =
     let at-power = c .before .before in
-    natural-fits (toZ w32 (at-power .power .result) *ℤ pos loudest) (raise at-power) (product at-power)
+    natural-fits (toZ w32 (at-power .power .result) *ℤ pos raiseBy) (raise at-power) (product at-power)
     (omega (arith, raise-most at-power))
 
 sub-t9 : tie.Need-sub-t9

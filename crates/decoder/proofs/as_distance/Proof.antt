@@ -51,7 +51,7 @@ returns : tie.Need-returns
 returns c =
     let at-power = c .before .before .before in (
       c .before .before .message-of .ensures,
-      ap (λ (n : ℕ). n - at-power .before .args .st .best) (most-turns at-power),
+      ap (λ (n : ℕ). n - at-power .before .args .led .best) (most-turns at-power),
       refl,
     )
 

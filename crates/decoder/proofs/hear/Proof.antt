@@ -35,7 +35,7 @@ searched-gains : (c : tie.After-search) → let args = start (raised c) .args in
     ≡ searched (args .h) (args .m) (tableOf (args .h) (args .m) (softGain (args .h) (now (args .values))))
 searched-gains c =
     let args = start (raised c) .args in
-    c .search .ensures ∙ ap (searched (args .h) (args .m)) (raised c .raise .ensures .0)
+    c .search .ensures .0 ∙ ap (searched (args .h) (args .m)) (raised c .raise .ensures .0)
 
 as-correlation-requires : tie.Need-as-correlation-requires
 as-correlation-requires c κs =
@@ -55,8 +55,7 @@ returns c =
     let s = start (raised found) in
     let e = c .as-correlation .ensures in
     soft-found _ _ (taken s .shape) (taken s .few) (found .search .result) (now (s .args .values))
-    (raised found .raise .ensures .1) (searched-gains found) (c .as-correlation .result) (s .pre .0) (e .0) (e .1)
-    (e .2)
+    (raised found .raise .ensures .1) (searched-gains found) _ _ _ (s .pre .0) (e .0) (e .1) (e .2)
 
 pub hear-spec : {M : Type 1} → statement M
 hear-spec =

@@ -6,7 +6,7 @@ use mathlib.Core.Path.{_≡_, sym, _∙_, ap}
 use lib.IntN.{ℤ, pos, natAbs, _-ℤ_}
 use mir.Syntax.{w16, w32}
 use mir.Val.{ofZ, toZ}
-use Rattle.totals.specs.Gains.{loudest, raised}
+use Rattle.totals.specs.Gains.{raiseBy, raised}
 use Rattle.totals.proofs.SoftTotals.{lowered-shift}
 use Rattle.decoder.proofs.Casts.{widened-fits, widened-is, natural-fits, natural-is, natural-casts}
 use Rattle.decoder.proofs.lowered.Statement.{statement}
@@ -14,14 +14,14 @@ use Rattle.decoder.proofs.lowered.Tie as tie
 
 -- what is given
 abbrev given : tie.Start → ℕ
-given c = 2 * loudest - raised (c .args .y)
+given c = 2 * raiseBy - raised (c .args .y)
 
 -- the difference, as the locals hold it
 difference : (c : tie.Start) → let y = c .args .y in
-    pos (given c) ≡ pos loudest -ℤ toZ w32 (ofZ w32 (toZ w16 (ofZ w16 y)))
+    pos (given c) ≡ pos raiseBy -ℤ toZ w32 (ofZ w32 (toZ w16 (ofZ w16 y)))
 difference c =
     lowered-shift (c .args .y) (c .fits .y .sfits)
-    ∙ ap (λ (z : ℤ). pos loudest -ℤ z) (sym (widened-is (c .args .y) (c .fits .y)))
+    ∙ ap (λ (z : ℤ). pos raiseBy -ℤ z) (sym (widened-is (c .args .y) (c .fits .y)))
 
 small : (c : tie.Start) → given c < 2 ^ 31
 small c = omega arith

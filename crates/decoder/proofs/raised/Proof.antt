@@ -6,7 +6,7 @@ use mathlib.Core.Path.{_≡_, sym, _∙_, ap}
 use lib.IntN.{ℤ, pos, natAbs, _+ℤ_}
 use mir.Syntax.{w16, w32}
 use mir.Val.{ofZ, toZ}
-use Rattle.totals.specs.Gains.{loudest, raised}
+use Rattle.totals.specs.Gains.{raiseBy, raised}
 use Rattle.totals.proofs.SoftTotals.{raised-shift, raised-le}
 use Rattle.decoder.proofs.Casts.{widened-fits, widened-is, natural-fits, natural-is, natural-casts}
 use Rattle.decoder.proofs.raised.Statement.{statement}
@@ -14,10 +14,10 @@ use Rattle.decoder.proofs.raised.Tie as tie
 
 -- the sum, as the locals hold it
 sum : (c : tie.Start) → let y = c .args .y in
-    pos (raised y) ≡ pos loudest +ℤ toZ w32 (ofZ w32 (toZ w16 (ofZ w16 y)))
+    pos (raised y) ≡ pos raiseBy +ℤ toZ w32 (ofZ w32 (toZ w16 (ofZ w16 y)))
 sum c =
     raised-shift (c .args .y) (c .fits .y .sfits)
-    ∙ ap (λ (z : ℤ). pos loudest +ℤ z) (sym (widened-is (c .args .y) (c .fits .y)))
+    ∙ ap (λ (z : ℤ). pos raiseBy +ℤ z) (sym (widened-is (c .args .y) (c .fits .y)))
 
 small : (c : tie.Start) → raised (c .args .y) < 2 ^ 31
 small c = omega (arith, raised-le (c .args .y) (c .fits .y .sfits))

@@ -13,7 +13,7 @@ use borrow.Author.Needs.{needs}
 use borrow.Author.Tests.{lt-ltb, le-ltb}
 use Rattle.range.specs.Signed.{entry}
 use Rattle.rules.specs.Shape.{halfTurn}
-use Rattle.totals.specs.Gains.{loudest, raised, softGain}
+use Rattle.totals.specs.Gains.{raiseBy, raised, softGain}
 use Rattle.decoder.proofs.soft_gain.Statement.{statement}
 use Rattle.decoder.proofs.soft_gain.Tie as tie
 
@@ -23,7 +23,7 @@ module _ (h : ℕ) (ys : List ℤ) (half i s : ℕ) (e : half ≡ halfTurn h) wh
   unfolding softGain
   first l = rw (← e, lt-ltb s half l)
 
-  second : half ≤ s → 2 * loudest - raised (entry ys (half * i + (s - half))) ≡ softGain h ys i s
+  second : half ≤ s → 2 * raiseBy - raised (entry ys (half * i + (s - half))) ≡ softGain h ys i s
   unfolding softGain
   second l = rw (← e, le-ltb s half l)
 
@@ -71,7 +71,7 @@ returns-2 c =
     let args = c .before .before .before .args in
     let y = entry (now (args .values)) (args .half * args .i + (args .s - args .half)) in (
       λ h e. c .lowered .ensures
-          ∙ ap (λ (z : ℤ). 2 * loudest - raised z) (toZ-ofZ w16 y (record { sfits = c .before .lowered-arg .given }))
+          ∙ ap (λ (z : ℤ). 2 * raiseBy - raised z) (toZ-ofZ w16 y (record { sfits = c .before .lowered-arg .given }))
           ∙ second h (now (args .values)) (args .half) (args .i) (args .s) e (c .before .before .if1 .left),
       λ l. absurd (omega (arith, l, c .before .before .if1 .left)),
     )

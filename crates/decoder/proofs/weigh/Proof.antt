@@ -35,7 +35,7 @@ searched-gains : (c : tie.After-search) → let args = start (compared c) .args 
     ≡ searched (args .h) (args .m) (tableOf (args .h) (args .m) (hardGain (args .h) (now (args .word))))
 searched-gains c =
     let args = start (compared c) .args in
-    c .search .ensures ∙ ap (searched (args .h) (args .m)) (compared c .compare .ensures)
+    c .search .ensures .0 ∙ ap (searched (args .h) (args .m)) (compared c .compare .ensures)
 
 as-distance-requires : tie.Need-as-distance-requires
 as-distance-requires c κs =
@@ -54,7 +54,7 @@ returns c =
     let s = start (compared found) in
     let e = c .as-distance .ensures in
     hard-found _ _ (taken s .shape) (taken s .few) (found .search .result) (now (s .args .word)) (taken s .inside)
-    (searched-gains found) (c .as-distance .result) (s .pre .0) (e .0) (e .1) (e .2)
+    (searched-gains found) _ _ _ (s .pre .0) (e .0) (e .1) (e .2)
 
 pub weigh-spec : {M : Type 1} → statement M
 weigh-spec = tie.close (tie.spec compare-requires search-requires as-distance-requires same-length returns)
