@@ -205,7 +205,8 @@ fn as_correlation(h: u32, m: u32, st: Standing) -> Loudest
     }
 }
 
-// What hard decoding answers of a search: the message of the greatest total, and the distance that the total stands for.
+// What hard decoding answers of a search: the message of the greatest total, and the distance that the total stands
+// for.
 fn as_distance(h: u32, m: u32, led: Standing) -> Closest
     requires { ⌜ (inShape h m ≡ true) × (led .best ≤ carriers m * halfTurn h) ⌝ }
     ensures { λ r. ⌜ (r .message .0 ≡ messageOf h m (led .label))

@@ -4,7 +4,7 @@
 -- Runs are numbered through symbol and place together: c symbols further on is c times `half` runs further on, modulo
 -- all of them.
 -- Defines:  turned q n w g        the gains with a word w put in: what symbol s plus w's symbol gains at each place
---           pairAt q half w xs t c r    number r of run t of the next table at coefficient c: the sum of two numbers of xs
+--           pairAt q half w xs t c r    number r of run t of the next table at coefficient c: two numbers of xs added
 --           climbed q half w xs   one stage, from 2 q half runs of w to q half runs of q w
 --           climbs q d w xs       d stages, from runs of w to runs of w q^d
 --           turnedAt, climbedAt   their numbers by index
