@@ -10,20 +10,20 @@ mod turning;
 use shape::GREATEST_M;
 use shape::PLACES;
 use standing::Standing;
-ghost use Prim.Native.Nat.{_+_, _*_, _/_, _%_, _^_, _<_, _≤_, suc};
+ghost use Prim.Native.Nat.{suc, _+_, _*_, _%_, _^_, _<_, _≤_};
 ghost use mathlib.Core.Path.{_≡_};
 ghost use mathlib.Core.Bool.{true};
 ghost use lib.Dec.{leb};
 ghost use lib.ListN.{length, getD, take};
-ghost use Rattle.totals.specs.Climb.{turned, climbed, climbs, byLabel};
-ghost use Rattle.totals.specs.Totals.{totalOf};
-ghost use Rattle.standing.specs.Lead.{leadFrom, lead};
-ghost use Rattle.engine.specs.Tables.{Areas, Runs, Turning, Climbing, Paths, Path, tableIn};
 ghost use Rattle.range.specs.Below.{allBelow, listBelow};
 ghost use Rattle.rules.specs.Shape.{inShape, phases, carriers};
 ghost use Rattle.rules.specs.Label.{labels};
 ghost use Rattle.rules.specs.Word.{wordAt};
+ghost use Rattle.totals.specs.Totals.{totalOf};
+ghost use Rattle.totals.specs.Climb.{turned, climbed, climbs, byLabel};
+ghost use Rattle.standing.specs.Lead.{leadFrom, lead};
 ghost use Rattle.engine.specs.Search.{mostGain, accepts, searched};
+ghost use Rattle.engine.specs.Tables.{Areas, Runs, Turning, Climbing, Paths, Path, tableIn};
 
 // The greatest h that the tables have room for, and the room: 2 q^m numbers.
 const GREATEST_DECODED: u32 = 2;
@@ -128,12 +128,46 @@ fn each(
     st
 }
 
-// x modulo n, for an x below 2 n.
-fn wrap(n: usize, x: usize) -> usize
-    requires { ⌜ x < n + n ⌝ }
-    ensures { λ r. ⌜ r ≡ x % n ⌝ }
+// The standing after the labels of one path, counted from first on, the label of its zero coefficients.
+fn path(
+    h: u32,
+    m: u32,
+    q: usize,
+    half: usize,
+    first: u64,
+    gains: &[u32],
+    word: &mut [u8],
+    x: &mut [u32],
+    y: &mut [u32],
+    before: Standing,
+) -> Standing
+    requires { ⌜ Path h m q half first (now gains) (now word) (now x) (now y) ⌝ }
+    ensures { λ r. ⌜ r ≡ leadFrom first (λ j. totalOf h m (now (gains .entry)) (first + j))
+        (phases h ^ (m + 1)) before ⌝ }
 {
-    if x < n { x } else { x - n }
+    own_word(h, m, first, word);
+    begin(q, word, gains, x);
+    climb(m - 1, q, half, 1, first, x, y, before)
+}
+
+// The word of a label.
+fn own_word(h: u32, m: u32, label: u64, word: &mut [u8])
+    requires { ⌜ (inShape h m ≡ true) × (label < labels h m) × (length (now word) ≡ carriers m) ⌝ }
+    ensures { λ _. ⌜ now (word .exit) ≡ listBelow (carriers m) (wordAt h m label) ⌝ }
+{
+    encoder::encode(h, m, shape::message_of(h, m, label), word);
+}
+
+// The first table, at the front of x.
+fn begin(q: usize, word: &[u8], gains: &[u32], x: &mut [u32])
+    requires { ⌜ Turning q (now word) (now gains) ⌝ }
+    requires { ⌜ length (now gains) ≤ length (now x) ⌝ }
+    ensures { λ _. ⌜ (take (length (now (gains .entry))) (now (x .exit))
+        ≡ turned q (length (now (word .entry))) (now (word .entry)) (now (gains .entry)))
+        × (length (now (x .exit)) ≡ length (now (x .entry))) ⌝ }
+{
+    let n = gains.len();
+    turning::start(q, word, gains, &mut x[..n]);
 }
 
 // The standing after d stages more, the last stage, and all its labels, counted from first on. The two areas take
@@ -183,44 +217,10 @@ fn finish(q: usize, w: usize, first: u64, x: &[u32], before: Standing) -> Standi
     scan::last(q, w, first, &x[..n], before)
 }
 
-// The standing after the labels of one path, counted from first on, the label of its zero coefficients.
-fn path(
-    h: u32,
-    m: u32,
-    q: usize,
-    half: usize,
-    first: u64,
-    gains: &[u32],
-    word: &mut [u8],
-    x: &mut [u32],
-    y: &mut [u32],
-    before: Standing,
-) -> Standing
-    requires { ⌜ Path h m q half first (now gains) (now word) (now x) (now y) ⌝ }
-    ensures { λ r. ⌜ r ≡ leadFrom first (λ j. totalOf h m (now (gains .entry)) (first + j))
-        (phases h ^ (m + 1)) before ⌝ }
+// x modulo n, for an x below 2 n.
+fn wrap(n: usize, x: usize) -> usize
+    requires { ⌜ x < n + n ⌝ }
+    ensures { λ r. ⌜ r ≡ x % n ⌝ }
 {
-    own_word(h, m, first, word);
-    begin(q, word, gains, x);
-    climb(m - 1, q, half, 1, first, x, y, before)
-}
-
-// The word of a label.
-fn own_word(h: u32, m: u32, label: u64, word: &mut [u8])
-    requires { ⌜ (inShape h m ≡ true) × (label < labels h m) × (length (now word) ≡ carriers m) ⌝ }
-    ensures { λ _. ⌜ now (word .exit) ≡ listBelow (carriers m) (wordAt h m label) ⌝ }
-{
-    encoder::encode(h, m, shape::message_of(h, m, label), word);
-}
-
-// The first table, at the front of x.
-fn begin(q: usize, word: &[u8], gains: &[u32], x: &mut [u32])
-    requires { ⌜ Turning q (now word) (now gains) ⌝ }
-    requires { ⌜ length (now gains) ≤ length (now x) ⌝ }
-    ensures { λ _. ⌜ (take (length (now (gains .entry))) (now (x .exit))
-        ≡ turned q (length (now (word .entry))) (now (word .entry)) (now (gains .entry)))
-        × (length (now (x .exit)) ≡ length (now (x .entry))) ⌝ }
-{
-    let n = gains.len();
-    turning::start(q, word, gains, &mut x[..n]);
+    if x < n { x } else { x - n }
 }
