@@ -27,6 +27,10 @@ pub(super) fn stage(q: usize, half: usize, w: usize, from: &[u32], to: &mut [u32
         pass(q, half, 16, from, to);
         return;
     }
+    if w == 64 {
+        pass(q, half, 64, from, to);
+        return;
+    }
     pass(q, half, w, from, to);
 }
 

@@ -60,13 +60,25 @@ returns-3 c =
     done (args .q) (args .half) (now (args .from)) (test .if3 .taken) (c .before .before .pass3 .ensures)
 
 pass-requires-4 : tie.Need-pass-requires-4
-pass-requires-4 c κs = search needs
+pass-requires-4 c κs = asked (c .before .if4 .taken) (start (c .before .before .before .before .before) .pre)
 
 same-length-4 : tie.Need-same-length-4
 same-length-4 c = search needs
 
 returns-4 : tie.Need-returns-4
-returns-4 c = search needs
+returns-4 c =
+    let test = c .before .before .before .before in
+    let args = start (test .before .before .before .before) .args in
+    done (args .q) (args .half) (now (args .from)) (test .if4 .taken) (c .before .before .pass4 .ensures)
+
+pass-requires-5 : tie.Need-pass-requires-5
+pass-requires-5 c κs = search needs
+
+same-length-5 : tie.Need-same-length-5
+same-length-5 c = search needs
+
+returns-5 : tie.Need-returns-5
+returns-5 c = search needs
 
 pub stage-spec : {M : Type 1} → statement M
 stage-spec =
@@ -83,4 +95,7 @@ stage-spec =
     returns-3
     pass-requires-4
     same-length-4
-    returns-4)
+    returns-4
+    pass-requires-5
+    same-length-5
+    returns-5)
