@@ -20,14 +20,14 @@ use Rattle.range.specs.Signed.{entry}
 use Rattle.range.proofs.Lists.{length-listBelow, listBelow-at}
 use Rattle.range.proofs.Sums.{sumBelow-le}
 use Rattle.range.proofs.Tests.{allBelow-of}
-use Rattle.rules.specs.Shape.{inShape, phases, halfTurn, carriers, greatestM, messages}
+use Rattle.rules.specs.Shape.{inShape, phases, halfTurn, carriers, messages}
 use Rattle.rules.specs.Label.{labels, labelOf, messageOf}
 use Rattle.rules.specs.Word.{symbolAt}
 use Rattle.rules.specs.Best.{Best}
 use Rattle.rules.specs.Outcome.{allowed}
 use Rattle.rules.specs.Refusal.{softRefusal, hardRefusal}
 use Rattle.rules.specs.Decoding.{Loud, Near}
-use Rattle.rules.proofs.Range.{inShape-range}
+use Rattle.rules.proofs.Range.{inShape-range, carriers-most}
 use Rattle.rules.proofs.Silence.{labels-two}
 use Rattle.words.proofs.Labels.{labelOf-messageOf, messageOf-lt}
 use Rattle.totals.specs.Totals.{totalOf}
@@ -84,9 +84,6 @@ module _ (h m : ℕ) (ok : inShape h m ≡ true) (two : h ≤ 2) (st : Standing)
   one : 1 ≤ h
   one = inShape-range h m ok .h-least
 
-  carriers-le : carriers m ≤ carriers greatestM
-  carriers-le = pow-mono (inShape-range h m ok .m-most)
-
   module _ (g : ℕ) (e : g ≡ messageOf h m (st .label)) where
     message-inside : st .label < labels h m → g < messages h m
     message-inside l = rw e (messageOf-lt h m (st .label) l)
@@ -101,7 +98,7 @@ module _ (h m : ℕ) (ok : inShape h m ≡ true) (two : h ≤ 2) (st : Standing)
 
     pub soft-best-le : st .best ≤ 2 ^ 30
     soft-best-le =
-        omega (arith, heard .1, mul-le-mul carriers-le (le-refl (2 * raiseBy)))
+        omega (arith, heard .1, mul-le-mul (carriers-most h m (inShape-range h m ok)) (le-refl (2 * raiseBy)))
 
     pub soft-found : (g : ℕ) (v : ℤ) (t : Bool) → softRefusal h m ys ≡ allowed → g ≡ messageOf h m (st .label) →
         v ≡ pos (st .best) -ℤ pos (carriers m * raiseBy) → t ≡ tiedOf st → Loud h m ys g v t

@@ -1,16 +1,15 @@
 -- A table of gains (totals, specs/Gains.antt), filled number after number.
--- In order: number e of a table; its place and its symbol; the soft values of a place; the table once it is filled.
+-- In order: number e of a table; its place and its symbol; the table once it is filled.
 -- Not here: what a filled table holds (totals, Tables), which gains there are (totals, SoftTotals, HardTotals).
 -- Assumes nothing.
-use Prim.Native.Nat.{ℕ, _+_, _*_, _/_, _%_, _≤_, _<_}
-use native.Mathlib.Nat.{mod-lt, div-lt-iff-lt-mul, mul-le-mul-left, mul-suc}
-use mathlib.Core.Path.{_≡_, refl, _∙_, ap}
+use Prim.Native.Nat.{ℕ, _*_, _/_, _%_, _<_}
+use native.Mathlib.Nat.{mod-lt, div-lt-iff-lt-mul}
+use mathlib.Core.Path.{_≡_}
 use mathlib.Core.List.{List}
 use lib.ListN.{length}
 use lib.Pow.{pow-pos}
-use Rattle.range.specs.Below.{listBelow, Written}
-use Rattle.range.proofs.Filled.{filled-all}
-use Rattle.range.proofs.Writing.{written-end}
+use Rattle.range.specs.Below.{Written}
+use Rattle.range.proofs.Writing.{written-all}
 use Rattle.rules.specs.Shape.{phases, carriers}
 use Rattle.totals.specs.Gains.{tableOf}
 
@@ -28,14 +27,7 @@ module _ (m n : ℕ) (q : n ≡ carriers m) where
   pub symbol-lt : (h e : ℕ) → e < phases h * carriers m → e / n < phases h
   symbol-lt h e l = div-lt-iff-lt-mul places-pos .1 (rw q l)
 
--- the c values of place i are among those of n places
-pub values-le : (c i n : ℕ) → i < n → c * i + c ≤ c * n
-values-le c i n l = rw (← mul-suc) (mul-le-mul-left c l)
-
 pub table-filled : (h m : ℕ) (f : ℕ → ℕ → ℕ) (d t : List ℕ) → length d ≡ phases h * carriers m →
     Written (gainOf m f) d 0 t (length d) → t ≡ tableOf h m f
 unfolding tableOf
-table-filled h m f d t l w =
-    written-end (gainOf m f) d t (length d) (length d) w refl
-    ∙ filled-all (gainOf m f) d
-    ∙ ap (λ (n : ℕ). listBelow n (gainOf m f)) l
+table-filled h m f d t l w = written-all (gainOf m f) d t (phases h * carriers m) (length d) w l l

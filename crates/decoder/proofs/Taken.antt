@@ -74,12 +74,9 @@ hard-taken h m w e =
       inside = λ i b. firstBad-none (phases h) w (sym (d .0)) i (omega (arith, n));
     }
 
--- 2^(h-1) N and 2^h N as powers
+-- 2^(h-1) N as one power; 2^h N is engine's table-size
 pub values-power : (h m : ℕ) → halfTurn h * carriers m ≡ 2 ^ (h - 1 + m)
 values-power h m = sym (pow-add 2 (h - 1) m)
-
-pub gains-power : (h m : ℕ) → phases h * carriers m ≡ 2 ^ (h + m)
-gains-power h m = sym (pow-add 2 h m)
 
 -- a table of gains fits its area
 pub gains-fit : (h m : ℕ) → inShape h m ≡ true → h ≤ 2 → 2 ^ (h + m) ≤ 4 * carriers greatestM

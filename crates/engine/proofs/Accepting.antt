@@ -11,20 +11,20 @@ use mathlib.Core.Bool.{Bool, true, false}
 use mathlib.Core.List.{List}
 use lib.Dec.{eqb, leb}
 use lib.ListN.{length, getD, List·getD-eq-default}
-use lib.Pow.{pow-mono, pow-add}
+use lib.Pow.{pow-add}
 use borrow.Author.Tests.{leb-true, eqb-true, le-leb, lt-leb, eq-eqb, ne-eqb}
 use Rattle.range.specs.Below.{allBelow}
 use Rattle.range.proofs.Tests.{and-left, and-right, allBelow-at}
 use Rattle.rules.specs.Shape.{inShape, phases, carriers, greatestM}
 use Rattle.rules.specs.Label.{labels}
-use Rattle.rules.proofs.Range.{inShape-range}
+use Rattle.rules.proofs.Range.{inShape-range, carriers-most}
 use Rattle.totals.specs.Totals.{totalOf}
 use Rattle.standing.specs.Lead.{nobody, lead}
 use Rattle.engine.specs.Tables.{mostTotal}
 use Rattle.engine.specs.Search.{greatestDecoded, mostGain, accepts, searched}
 
 -- the gains are small
-abbrev pub smallGains : List ℕ → Bool
+abbrev smallGains : List ℕ → Bool
 smallGains g = allBelow (length g) (λ i. leb (getD g i 0) mostGain)
 
 module _ (h m : ℕ) (g : List ℕ) where
@@ -69,7 +69,7 @@ module _ (h m : ℕ) (g : List ℕ) where
   accepted-small p i = at (decLt i (length g))
     where
       n : carriers m ≤ carriers greatestM
-      n = pow-mono (inShape-range h m (p .shape) .m-most)
+      n = carriers-most h m (inShape-range h m (p .shape))
 
       at : Dec (i < length g) → getD g i 0 * carriers m ≤ mostTotal
       at (yes l) =

@@ -12,6 +12,7 @@ use mathlib.Core.List.{List}
 use lib.Dec.{lit<}
 use lib.ListN.{length, getD, take, List·getD-eq-default}
 use Rattle.range.specs.Below.{listBelow}
+use Rattle.range.proofs.Products.{times-within}
 use Rattle.range.proofs.Lists.{length-listBelow, listBelow-at}
 use Rattle.rules.specs.Shape.{phases, carriers, pathsInUse}
 use Rattle.rules.specs.Label.{labels}
@@ -26,7 +27,6 @@ use Rattle.standing.specs.declared.Standing.{Standing}
 use Rattle.standing.specs.Lead.{leadFrom}
 use Rattle.standing.proofs.Lead.{leadFrom-cong}
 use Rattle.engine.specs.Tables.{mostTotal, Runs, Turning, tableIn, Climbing, Path}
-use Rattle.engine.proofs.RunLaws.{times-within}
 use Rattle.engine.proofs.Climbing.{wanted}
 use Rattle.engine.proofs.AllPaths.{labels-paths, labels-le}
 

@@ -1,26 +1,19 @@
--- The runs of a table lie inside it, and no sum of two numbers is too great: specs/Tables.antt. In order: products; the
--- runs of a table that is read, how many there are, and sums of their numbers; the sums of the last stage; a sum as a
+-- The runs of a table lie inside it, and no sum of two numbers is too great: specs/Tables.antt. In order: the runs
+-- of a table that is read, how many there are, and sums of their numbers; the sums of the last stage; a sum as a
 -- number of the next table, and the run one symbol further on; a gain as a number of the first table; a table at the
 -- front of an area, read and written.
 -- Not here: the labels of a table (Counting), the stages one after the other (Climbing).  Assumes nothing.
 use Prim.Native.Nat.{ℕ, _+_, _*_, _%_, _≤_, _<_}
-use native.Mathlib.Nat.{mul-le-mul, mul-one, mod-add-mod}
+use native.Mathlib.Nat.{mul-one, mod-add-mod}
 use native.Mathlib.Omega.{arith}
 use mathlib.Core.Path.{_≡_, sym, _∙_, ap, subst}
 use mathlib.Core.List.{List, _++_}
 use lib.ListN.{length, getD, take, drop, length-append, length-take, length-drop}
 use lib.Seq.{take-at}
+use Rattle.range.proofs.Products.{times-within, times-least}
 use Rattle.totals.specs.Climb.{turnedAt, pairAt, climbedAt}
 use Rattle.totals.proofs.Runs.{turnedAt-run, climbedAt-run}
 use Rattle.engine.specs.Tables.{mostTotal, Runs, tableIn}
-
--- one more of a below b, times k
-pub times-within : (a b k : ℕ) → a < b → a * k + k ≤ b * k
-times-within a b k l = omega (arith, mul-le-mul {n₁ = a + 1} {m₁ = k} {n₂ = b} {m₂ = k} (omega arith) (omega arith))
-
--- a product is at least its first factor
-pub times-least : (a k : ℕ) → 1 ≤ k → a ≤ a * k
-times-least a k l = omega (arith, mul-le-mul {n₁ = a} {m₁ = 1} {n₂ = a} {m₂ = k} (omega arith) l)
 
 module _ {q half w : ℕ} {xs : List ℕ} (p : Runs q half w xs) where
   -- the two runs of number t

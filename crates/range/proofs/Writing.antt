@@ -15,7 +15,7 @@ module _ {A : Type 0} where
   pub written-none : (f : ℕ → A) (to : List A) (i : ℕ) → Written f to i to i
   written-none f to i = record { sized = refl; on = λ d l e. e }
 
-  pub written-turn : (f : ℕ → A) (to₀ : List A) (i₀ : ℕ) (to : List A) (i : ℕ) (v : A) → Written f to₀ i₀ to i →
+  written-turn : (f : ℕ → A) (to₀ : List A) (i₀ : ℕ) (to : List A) (i : ℕ) (v : A) → Written f to₀ i₀ to i →
       i < length to₀ → v ≡ f i → Written f to₀ i₀ (set to i v) (i + 1)
   written-turn f to₀ i₀ to i v w h e = record {
     sized = length-set to i v ∙ w .sized;

@@ -1,11 +1,11 @@
 -- What soft and hard decoding answer: 01 "What the receiver hears", "When the receiver says no".
 -- An answer is an outcome: the message number, its correlation or distance, and whether it is tied.
 -- Defines:  Loud h m ys g v tied    soft values ys are not refused, g is a message, and its label has the greatest
---                                      correlation, v
+--                                   correlation, v
 --           Near h m w g d tied     symbols w are not refused, g is a message, and its label's word is the nearest, at
---                                      distance d
---           SoftOutcome h m ys o       o is what soft decoding of ys answers
---           HardOutcome h m w o        o is what hard decoding of w answers
+--                                   distance d
+--           SoftOutcome h m ys o    o is what soft decoding of ys answers
+--           HardOutcome h m w o     o is what hard decoding of w answers
 -- That g is a message follows from its label for the plain bits of today; it is said so that other bits leave it true.
 -- Law: crate decoder (only one outcome is answered).  Assumes nothing: these are definitions.
 use Prim.Native.Nat.{ℕ, _<_}

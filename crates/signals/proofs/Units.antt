@@ -64,7 +64,7 @@ less-count true u a = sym (less-none a)
 less-count false true a = sym (less-two a)
 less-count false false a = sym (less-one a)
 
-pub heard-lee : (h m a : ℕ) (w : List ℕ) (i s : ℕ) → 1 ≤ h → h ≤ 2 → i < carriers m → symbolAt w i < phases h →
+heard-lee : (h m a : ℕ) (w : List ℕ) (i s : ℕ) → 1 ≤ h → h ≤ 2 → i < carriers m → symbolAt w i < phases h →
     s < phases h → heard h (clean h m a w) i s ≡
     pos a -ℤ pos (a * (2 / halfTurn h) * leeOf h (minus (phases h) (symbolAt w i) s))
 unfolding quarters countOf

@@ -9,7 +9,7 @@ use Rattle.standing.specs.declared.Standing.{Standing}
 use Rattle.standing.specs.Lead.{better, leadFrom}
 use Rattle.standing.proofs.Passing.{better-kept}
 
-pub leadFrom-add : (l : ℕ) (f : ℕ → ℕ) (a b : ℕ) (st : Standing) →
+leadFrom-add : (l : ℕ) (f : ℕ → ℕ) (a b : ℕ) (st : Standing) →
     leadFrom l f (a + b) st ≡ leadFrom (l + a) (λ j. f (a + j)) b (leadFrom l f a st)
 unfolding leadFrom
 leadFrom-add l f a zero st = rw (add-zero a)

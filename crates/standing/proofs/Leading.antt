@@ -81,33 +81,38 @@ module _ (n : ℕ) (f : ℕ → ℕ) (st : Standing) (p : Leading n f st) where
           subst (Leading (suc n) f) (sym (better-best st (f n) n a d)) (leading-best d)
 
 -- the first label, whether its value is zero or not
+first-zero : (f : ℕ → ℕ) → f 0 ≤ 0 → Leading 1 f nobody
+first-zero f h = record {
+  inside = le-refl 1;
+  attained = omega arith;
+  most = below-suc (λ k. f k ≤ 0) 0 (λ k l. absurd (not-suc-le-zero l)) h;
+  earliest = λ k l. absurd (not-suc-le-zero l);
+  others = λ k l d. absurd (omega arith);
+  ordered = le-refl 0;
+  runner = inl refl;
+}
+
+first-above : (f : ℕ → ℕ) → Leading 1 f (record { best = f 0; second = 0; label = 0 })
+first-above f = record {
+  inside = le-refl 1;
+  attained = refl;
+  most = below-suc (λ k. f k ≤ f 0) 0 (λ k l. absurd (not-suc-le-zero l)) (le-refl (f 0));
+  earliest = λ k l. absurd (not-suc-le-zero l);
+  others = λ k l d. absurd (omega arith);
+  ordered = zero-le;
+  runner = inl refl;
+}
+
 leading-first : (f : ℕ → ℕ) → Leading 1 f (better nobody (f 0) 0)
 leading-first f = at (decLe (f 0) 0)
   where
     at : Dec (f 0 ≤ 0) → Leading 1 f (better nobody (f 0) 0)
-    at (yes h) =
-        subst (Leading 1 f) (sym (better-kept nobody (f 0) 0 h)) (record {
-          inside = le-refl 1;
-          attained = omega arith;
-          most = below-suc (λ k. f k ≤ 0) 0 (λ k l. absurd (not-suc-le-zero l)) h;
-          earliest = λ k l. absurd (not-suc-le-zero l);
-          others = λ k l d. absurd (omega arith);
-          ordered = le-refl 0;
-          runner = inl refl;
-        })
+    at (yes h) = subst (Leading 1 f) (sym (better-kept nobody (f 0) 0 h)) (first-zero f h)
     at (no h) =
         let a : 0 < f 0 = omega arith in
-        subst (Leading 1 f) (sym (better-best nobody (f 0) 0 a a)) (record {
-          inside = le-refl 1;
-          attained = refl;
-          most = below-suc (λ k. f k ≤ f 0) 0 (λ k l. absurd (not-suc-le-zero l)) (le-refl (f 0));
-          earliest = λ k l. absurd (not-suc-le-zero l);
-          others = λ k l d. absurd (omega arith);
-          ordered = zero-le;
-          runner = inl refl;
-        })
+        subst (Leading 1 f) (sym (better-best nobody (f 0) 0 a a)) (first-above f)
 
-pub lead-leading : (f : ℕ → ℕ) (n : ℕ) → Leading (suc n) f (lead f (suc n))
+lead-leading : (f : ℕ → ℕ) (n : ℕ) → Leading (suc n) f (lead f (suc n))
 unfolding lead leadFrom
 lead-leading f zero = leading-first f
 lead-leading f (suc n) =

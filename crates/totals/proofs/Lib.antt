@@ -1,4 +1,5 @@
 -- Laws of gains and totals.
+pub mod GainSamples
 pub mod Runs
 pub mod Linear
 pub mod Words

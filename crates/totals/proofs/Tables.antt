@@ -12,7 +12,7 @@ use Rattle.words.proofs.Forms.{wordAt-lt}
 use Rattle.totals.specs.Totals.{gainAt, totalOf}
 use Rattle.totals.specs.Gains.{tableOf}
 
-pub tableOf-at : (h m : ℕ) (f : ℕ → ℕ → ℕ) (i s : ℕ) → i < carriers m → s < phases h →
+tableOf-at : (h m : ℕ) (f : ℕ → ℕ → ℕ) (i s : ℕ) → i < carriers m → s < phases h →
     gainAt (carriers m) (tableOf h m f) i s ≡ f i s
 unfolding tableOf
 tableOf-at h m f i s a b =

@@ -1,6 +1,7 @@
 -- Laws of labels and words.
 pub mod Digits
 pub mod Labels
+pub mod Powers
 pub mod Horner
 pub mod Order
 pub mod Forms

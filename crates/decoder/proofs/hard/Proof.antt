@@ -16,8 +16,9 @@ use Rattle.rules.specs.Refusal.{hardRefusal}
 use Rattle.rules.proofs.Range.{inShape-range}
 use Rattle.kinds.specs.Told.{searchTold}
 use Rattle.shape.proofs.Powers.{power-is, power-phases, power-carriers}
+use Rattle.engine.proofs.Accepting.{table-size}
 use Rattle.decoder.proofs.Outcomes.{hard-shape, hard-octary, hard-length, hard-symbol, hard-allowed}
-use Rattle.decoder.proofs.Taken.{few-phases, gains-power, gains-fit}
+use Rattle.decoder.proofs.Taken.{few-phases, gains-fit}
 use Rattle.decoder.proofs.hard.Statement.{statement}
 use Rattle.decoder.proofs.hard.Tie as tie
 
@@ -140,7 +141,7 @@ weigh-requires : tie.Need-weigh-requires
 weigh-requires c κs =
     let args = start (twice (thrice (c .before .before))) .args in (
       taken (c .before .before),
-      length-take-le _ _ (fits (c .before)) ∙ gains-is (c .before) ∙ sym (gains-power (args .h) (args .m)),
+      length-take-le _ _ (fits (c .before)) ∙ gains-is (c .before) ∙ sym (table-size (args .h) (args .m)),
     )
 
 returns-5 : tie.Need-returns-5

@@ -11,12 +11,13 @@ use lib.Pow.{pow-pos}
 use denote.Ref.{now}
 use borrow.Author.Count.{below-none, below-more}
 use borrow.Author.Needs.{needs}
+use Rattle.range.proofs.Products.{times-within}
 use Rattle.range.proofs.Writing.{Filling, filling-none, filling-turn, filling-end}
 use Rattle.rules.specs.Shape.{phases, halfTurn, carriers}
 use Rattle.rules.proofs.Range.{InRange, inShape-range, phases-half}
 use Rattle.shape.proofs.Powers.{power-is, power-carriers}
 use Rattle.totals.specs.Gains.{softGain}
-use Rattle.decoder.proofs.Tables.{gainOf, places-pos, place-lt, symbol-lt, values-le, table-filled}
+use Rattle.decoder.proofs.Tables.{gainOf, places-pos, place-lt, symbol-lt, table-filled}
 use Rattle.decoder.proofs.Values.{SmallAt, small-all}
 use Rattle.decoder.proofs.raise.Statement.{statement}
 use Rattle.decoder.proofs.raise.Tie as tie
@@ -88,7 +89,7 @@ soft-gain-requires c κs =
       omega (
         arith,
         values-long at-power,
-        values-le (at-power .power2 .result) (e % n) n (place-lt _ n (places at-power) e),
+        times-within (e % n) n (at-power .power2 .result) (place-lt _ n (places at-power) e),
       ),
     )
 

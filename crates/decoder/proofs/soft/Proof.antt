@@ -14,8 +14,9 @@ use Rattle.rules.specs.Outcome.{allowed}
 use Rattle.rules.specs.Refusal.{softRefusal}
 use Rattle.rules.proofs.Range.{InRange, inShape-range}
 use Rattle.shape.proofs.Powers.{power-is}
+use Rattle.engine.proofs.Accepting.{table-size}
 use Rattle.decoder.proofs.Outcomes.{soft-shape, soft-octary, soft-length, soft-allowed}
-use Rattle.decoder.proofs.Taken.{few-phases, softLength-product, values-power, gains-power, gains-fit}
+use Rattle.decoder.proofs.Taken.{few-phases, softLength-product, values-power, gains-fit}
 use Rattle.decoder.proofs.soft.Statement.{statement}
 use Rattle.decoder.proofs.soft.Tie as tie
 
@@ -107,7 +108,7 @@ hear-requires : tie.Need-hear-requires
 hear-requires c κs =
     let args = start (c .before .before .before .before) .args in (
       taken (c .before .before),
-      length-take-le _ _ (fits (c .before)) ∙ gains-is (c .before) ∙ sym (gains-power (args .h) (args .m)),
+      length-take-le _ _ (fits (c .before)) ∙ gains-is (c .before) ∙ sym (table-size (args .h) (args .m)),
     )
 
 returns-4 : tie.Need-returns-4

@@ -7,11 +7,11 @@ use native.Mathlib.Omega.{arith}
 use mathlib.Core.Path.{_≡_, refl, sym, _∙_, ap}
 use lib.ListN.{length}
 use denote.Ref.{now}
+use Rattle.range.proofs.Products.{times-within}
 use Rattle.rules.proofs.Range.{inShape-range}
 use Rattle.totals.specs.Totals.{totalOf}
 use Rattle.standing.specs.Lead.{nobody, leadFrom, lead}
 use Rattle.standing.proofs.Lead.{leadFrom-none, leadFrom-end, leadFrom-stretch}
-use Rattle.engine.proofs.RunLaws.{times-within}
 use Rattle.engine.proofs.AllPaths.{labels-le, all-labels, paths-path}
 use Rattle.engine.proofs.each.Statement.{statement}
 use Rattle.engine.proofs.each.Tie as tie

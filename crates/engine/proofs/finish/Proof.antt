@@ -3,7 +3,8 @@
 use Prim.Native.Nat.{_*_}
 use native.Mathlib.Omega.{arith}
 use borrow.Author.Needs.{needs}
-use Rattle.engine.proofs.RunLaws.{times-least, runs-size}
+use Rattle.range.proofs.Products.{times-least}
+use Rattle.engine.proofs.RunLaws.{runs-size}
 use Rattle.engine.proofs.finish.Statement.{statement}
 use Rattle.engine.proofs.finish.Tie as tie
 

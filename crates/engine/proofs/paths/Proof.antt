@@ -1,14 +1,14 @@
 -- `engine::paths` meets its contract: the powers are the numbers that the shape gives.
 -- Assumes nothing.
-use Prim.Native.Nat.{ℕ, _+_, _^_}
+use Prim.Native.Nat.{_+_, _^_}
 use native.Mathlib.Omega.{arith}
-use mathlib.Core.Path.{_≡_, sym, _∙_, ap}
+use mathlib.Core.Path.{_≡_, _∙_}
 use denote.Ref.{now}
 use borrow.Author.Needs.{needs}
 use Rattle.rules.specs.Shape.{phases, pathsInUse}
-use Rattle.rules.proofs.Range.{InRange, inShape-range, pathBits-le, coefficientBits-le}
+use Rattle.rules.proofs.Range.{InRange, inShape-range, coefficientBits-le}
 use Rattle.shape.proofs.Powers.{power-is}
-use Rattle.words.proofs.Labels.{phases-pow}
+use Rattle.words.proofs.Powers.{power-labels, power-uses}
 use Rattle.engine.proofs.Accepting.{Accepted, accepts-given, accepted-small}
 use Rattle.engine.proofs.paths.Statement.{statement}
 use Rattle.engine.proofs.paths.Tie as tie
@@ -55,14 +55,12 @@ sized : (c : tie.After-power3) → let args = start (c .before .before) .args in
     c .power3 .result ≡ phases (args .h) ^ (args .m + 1)
 sized c =
     let s = start (c .before .before) in
-    c .power3 .ensures ∙ power-is _ (omega (arith, coefficientBits-le (s .args .h) (s .args .m) (ranged s)))
-    ∙ sym (phases-pow (s .args .h) (s .args .m + 1))
+    c .power3 .ensures ∙ power-labels (s .args .h) (s .args .m) (ranged s)
 
 used : (c : tie.After-power4) → c .power4 .result ≡ pathsInUse (start (c .before .before .before .before) .args .m)
 used c =
-    let bits = c .before .path-bits .ensures in
     let m = start (c .before .before .before .before) .args .m in
-    c .power4 .ensures ∙ power-is _ (omega (arith, bits, pathBits-le m)) ∙ ap (λ (e : ℕ). 2 ^ e) bits
+    c .power4 .ensures ∙ power-uses m _ (c .before .path-bits .ensures)
 
 each-requires : tie.Need-each-requires
 each-requires c κs =

@@ -8,10 +8,11 @@ use lib.ListN.{length}
 use lib.Seq.{length-take-le}
 use denote.Ref.{now}
 use borrow.Author.Needs.{needs}
+use Rattle.range.proofs.Products.{times-least}
 use Rattle.totals.specs.Climb.{climbed}
 use Rattle.totals.proofs.Runs.{length-climbed}
 use Rattle.engine.specs.Tables.{tableIn}
-use Rattle.engine.proofs.RunLaws.{times-least, runs-size, front-written}
+use Rattle.engine.proofs.RunLaws.{runs-size, front-written}
 use Rattle.engine.proofs.rise.Statement.{statement}
 use Rattle.engine.proofs.rise.Tie as tie
 

@@ -6,13 +6,12 @@ use native.Mathlib.Omega.{arith}
 use mathlib.Core.Path.{_≡_, refl, sym, _∙_}
 use mathlib.Core.Bool.{true}
 use lib.Dec.{lit≤}
-use lib.Pow.{pow-mono}
 use lib.Seq.{length-take-le}
 use denote.Ref.{now}
 use borrow.Author.Needs.{needs}
 use borrow.Author.Tests.{not-true, not-false}
 use Rattle.rules.specs.Shape.{carriers, greatestM}
-use Rattle.rules.proofs.Range.{inShape-range}
+use Rattle.rules.proofs.Range.{inShape-range, carriers-most}
 use Rattle.shape.proofs.Powers.{power-carriers}
 use Rattle.engine.specs.Search.{accepts}
 use Rattle.engine.proofs.Accepting.{accepts-given, searched-not, searched-is}
@@ -44,7 +43,7 @@ fits : (c : tie.After-power) → c .power .result ≤ carriers greatestM
 fits c =
     let args = start (c .before) .args in
     let r = inShape-range (args .h) (args .m) (accepts-given _ _ _ (taken (c .before)) .shape) in
-    omega (arith, places c, pow-mono (r .m-most))
+    omega (arith, places c, carriers-most (args .h) (args .m) r)
 
 array-borrow-prefix-word : tie.Need-array-borrow-prefix-word
 array-borrow-prefix-word c = fits c

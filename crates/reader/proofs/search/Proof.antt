@@ -16,10 +16,10 @@ use Rattle.rules.specs.Label.{labels, messageOf}
 use Rattle.rules.specs.Word.{wordOf}
 use Rattle.rules.specs.Table.{messageWith}
 use Rattle.rules.specs.Refusal.{orNoWord}
-use Rattle.rules.proofs.Range.{InRange, inShape-range, pathBits-le, coefficientBits-le, messageBits-le}
+use Rattle.rules.proofs.Range.{InRange, inShape-range, coefficientBits-le, messageBits-le}
 use Rattle.rules.proofs.Range.{mostCoefficientBits, mostBits}
-use Rattle.shape.proofs.Powers.{power-is}
 use Rattle.words.proofs.Labels.{phases-pow, messageOf-lt}
+use Rattle.words.proofs.Powers.{power-labels, power-uses}
 use Rattle.reader.specs.Shown.{labelWith}
 use Rattle.reader.proofs.ShownLaws.{labelWith-zero, labelWith-next, labelWith-lt, messageWith-some}
 use Rattle.reader.proofs.ShownLaws.{messageWith-none}
@@ -71,14 +71,11 @@ step-is : (c : tie.After-power Inv-loop μ-loop) → let args = c .before .befor
     c .power .result ≡ phases (args .h) ^ (args .m + 1)
 step-is c =
     let args = c .before .before .args in
-    c .power .ensures ∙ power-is _ (omega (arith, coefficientBits-le (args .h) (args .m) (ranged (c .before))))
-    ∙ sym (phases-pow (args .h) (args .m + 1))
+    c .power .ensures ∙ power-labels (args .h) (args .m) (ranged (c .before))
 
 uses-is : (c : tie.At-loop Inv-loop μ-loop) → at-uses c .power2 .result ≡ pathsInUse (start c .args .m)
 uses-is c =
-    let bits = at-uses c .before .path-bits .ensures in
-    at-uses c .power2 .ensures ∙ power-is _ (omega (arith, bits, pathBits-le (start c .args .m)))
-    ∙ ap (λ (e : ℕ). 2 ^ e) bits
+    at-uses c .power2 .ensures ∙ power-uses (start c .args .m) _ (at-uses c .before .path-bits .ensures)
 
 loop-holds : tie.Need-loop-holds Inv-loop μ-loop
 loop-holds c = (search needs, c .low .ensures ∙ labelWith-zero _ _ _, below-none _)

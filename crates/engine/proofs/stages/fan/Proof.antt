@@ -9,9 +9,10 @@ use mathlib.Core.Path.{_≡_, sym, _∙_, ap, subst}
 use lib.ListN.{length}
 use denote.Ref.{now}
 use Rattle.range.specs.Below.{Written}
+use Rattle.range.proofs.Products.{times-within}
 use Rattle.range.proofs.Writing.{written-none, written-zero, written-next, written-trans}
 use Rattle.totals.specs.Climb.{climbedAt}
-use Rattle.engine.proofs.RunLaws.{times-within, runs-within, runs-number, runs-sum, runs-half, climbedAt-sum}
+use Rattle.engine.proofs.RunLaws.{runs-within, runs-number, runs-sum, runs-half, climbedAt-sum}
 use Rattle.engine.proofs.RunLaws.{further-step}
 use Rattle.engine.proofs.stages.fan.Statement.{statement}
 use Rattle.engine.proofs.stages.fan.Tie as tie

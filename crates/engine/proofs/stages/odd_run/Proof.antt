@@ -2,7 +2,7 @@
 -- Assumes nothing.
 use native.Mathlib.Omega.{arith}
 use mathlib.Core.Path.{refl}
-use Rattle.engine.proofs.RunLaws.{times-least}
+use Rattle.range.proofs.Products.{times-least}
 use Rattle.engine.proofs.stages.odd_run.Statement.{statement}
 use Rattle.engine.proofs.stages.odd_run.Tie as tie
 

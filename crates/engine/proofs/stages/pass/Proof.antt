@@ -5,9 +5,10 @@ use Prim.Native.Nat.{ℕ, _+_, _-_, _*_, _≤_}
 use native.Mathlib.Omega.{arith}
 use mathlib.Core.Path.{_≡_, _∙_, ap}
 use Rattle.range.specs.Below.{Written}
+use Rattle.range.proofs.Products.{times-within}
 use Rattle.range.proofs.Writing.{written-none, written-trans, written-all}
 use Rattle.totals.specs.Climb.{climbedAt, climbed}
-use Rattle.engine.proofs.RunLaws.{times-within, runs-number, runs-step}
+use Rattle.engine.proofs.RunLaws.{runs-number, runs-step}
 use Rattle.engine.proofs.stages.pass.Statement.{statement}
 use Rattle.engine.proofs.stages.pass.Tie as tie
 

@@ -7,9 +7,9 @@ use mathlib.Core.Path.{_≡_, _∙_, ap}
 use lib.ListN.{length}
 use denote.Ref.{now}
 use Rattle.range.specs.Below.{Written}
+use Rattle.range.proofs.Products.{times-within}
 use Rattle.range.proofs.Writing.{written-none, written-trans, written-all}
 use Rattle.totals.specs.Climb.{turnedAt, turned}
-use Rattle.engine.proofs.RunLaws.{times-within}
 use Rattle.engine.proofs.turning.start.Statement.{statement}
 use Rattle.engine.proofs.turning.start.Tie as tie
 

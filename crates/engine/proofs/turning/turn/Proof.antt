@@ -8,9 +8,10 @@ use mathlib.Core.Path.{_≡_, ap, subst}
 use lib.ListN.{length, getD}
 use denote.Ref.{now}
 use Rattle.range.specs.Below.{Written}
+use Rattle.range.proofs.Products.{times-within, times-least}
 use Rattle.range.proofs.Writing.{written-zero, written-next}
 use Rattle.totals.specs.Climb.{turnedAt}
-use Rattle.engine.proofs.RunLaws.{times-within, times-least, turnedAt-gain}
+use Rattle.engine.proofs.RunLaws.{turnedAt-gain}
 use Rattle.engine.proofs.turning.turn.Statement.{statement}
 use Rattle.engine.proofs.turning.turn.Tie as tie
 
