@@ -1,4 +1,5 @@
 -- Laws of sums, counts, searches and lists below a number, and of sums and sizes of whole numbers.
+pub mod Bits
 pub mod Products
 pub mod Sums
 pub mod Tests

@@ -27,7 +27,7 @@ use Rattle.rules.specs.Pair.{minus}
 use Rattle.rules.specs.Word.{symbolAt}
 use Rattle.rules.specs.Table.{messageWith}
 use Rattle.rules.proofs.Range.{InRange, inShape-range, range-inM, coefficientBits-le, mostCoefficientBits}
-use Rattle.words.proofs.Digits.{one-lt}
+use Rattle.places.proofs.Digits.{one-lt}
 use Rattle.words.proofs.Labels.{phases-pow, numberOf, numberOf-lt, numberOf-back, labelPath-lt, labelOf-lt}
 use Rattle.words.proofs.Labels.{messageOf-labelOf}
 use Rattle.words.proofs.Horner.{numberOf-split, numberOf-cong}

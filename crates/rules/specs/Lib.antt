@@ -5,6 +5,7 @@ pub mod Path
 pub mod Label
 pub mod Word
 pub mod Pair
+pub mod Autocorrelation
 pub mod Distance
 pub mod Soft
 pub mod Best

@@ -7,7 +7,8 @@ use native.Mathlib.Nat.{lt-of-mul-lt-mul-right, mul-le-mul-right, mul-assoc, suc
 use mathlib.Core.Path.{_≡_, _∙_}
 use lib.Arith.{digits-div}
 use Rattle.rules.specs.Shape.{carriers}
-use Rattle.spectrum.proofs.Pairs.{double-mul, carriers-blocks}
+use Rattle.places.proofs.Twins.{carriers-blocks}
+use Rattle.spectrum.proofs.Pairs.{double-mul}
 
 pub block-div : (s a b i : ℕ) → b < s → i ≡ a * (2 * s) + b → i / s ≡ a + a
 block-div s a b i l q = rw (q, double-mul a s) (digits-div (a + a) l)

@@ -10,10 +10,10 @@ use mathlib.Core.Path.{_≡_, refl, sym, _∙_}
 use mathlib.Core.Bool.{Bool, true, false, not}
 use lib.IntN.{ℤ, negℤ, negℤ-negℤ}
 use Rattle.range.specs.Signed.{negatedIf}
+use Rattle.range.proofs.Bits.{bit-cases}
 use Rattle.range.proofs.Sums.{sumBelow-suc, sumBelow-cong}
 use Rattle.rules.specs.Place.{digit}
 use Rattle.rules.specs.Spectrum.{odd, shared}
-use Rattle.spectrum.proofs.Pairs.{bit-cases}
 
 -- the last digit
 pub digit-last : (m i : ℕ) → digit m i m ≡ i % 2

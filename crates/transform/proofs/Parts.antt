@@ -13,6 +13,7 @@ use lib.Pow.{pow-pos}
 use borrow.Author.Tests.{eq-eqb, ne-eqb}
 use Rattle.range.specs.Below.{listBelow, filled}
 use Rattle.range.specs.Signed.{entry}
+use Rattle.range.proofs.Bits.{bit-cases}
 use Rattle.range.proofs.Lists.{length-listBelow}
 use Rattle.range.proofs.Filled.{length-filled, take-filled, filled-cong}
 use Rattle.rules.specs.Shape.{carriers}
@@ -21,7 +22,6 @@ use Rattle.rules.specs.Outcome.{Outcome, gives, refuses, allowed, leaves}
 use Rattle.rules.specs.Refusal.{transformRefusal}
 use Rattle.rules.specs.Areas.{inFirst, firstAfter, secondAfter, partOf, partLength, partInFirst}
 use Rattle.rules.proofs.Range.{inM-range}
-use Rattle.spectrum.proofs.Pairs.{bit-cases}
 use Rattle.spectrum.proofs.Entries.{stages-spectrum}
 use Rattle.transform.specs.Told.{Ran}
 use Rattle.transform.specs.Steps.{firstAt, secondAt}

@@ -27,7 +27,7 @@ use Rattle.rules.proofs.Range.{phases-half}
 use Rattle.paths.proofs.Increasing.{pathAt-inj}
 use Rattle.paths.proofs.Pairs.{onPair}
 use Rattle.paths.proofs.Links.{path-of-links}
-use Rattle.words.proofs.Digits.{one-lt, twoAt, digit-two-lt, digit-two-first, digit-two-second, digit-two-off}
+use Rattle.places.proofs.Digits.{one-lt, twoAt, digit-two-lt, digit-two-first, digit-two-second, digit-two-off}
 use Rattle.words.proofs.Labels.{label-inj, labelPath-lt, messageOf-labelOf, labelOf-lt}
 use Rattle.words.proofs.Forms.{wordOf-at}
 use Rattle.words.proofs.Used.{isPath-good, used-lt, used-isPath, labelPath-good}

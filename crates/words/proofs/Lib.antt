@@ -1,5 +1,4 @@
 -- Laws of labels and words.
-pub mod Digits
 pub mod Labels
 pub mod Powers
 pub mod Horner

@@ -15,7 +15,7 @@ use Rattle.rules.specs.Word.{wordAt, partnerAt, wordOf, partnerOf}
 use Rattle.rules.proofs.Range.{inM-least}
 use Rattle.rules.proofs.Turns.{halfTurn-moves}
 use Rattle.paths.proofs.Members.{isPath-in}
-use Rattle.words.proofs.Digits.{one-lt, digit-one-at}
+use Rattle.places.proofs.Digits.{one-lt, digit-one-at}
 use Rattle.words.proofs.Labels.{labelOf-lt}
 use Rattle.words.proofs.Forms.{wordAt-lt, wordOf-at, partnerOf-at}
 use Rattle.words.proofs.Used.{labelPath-isPath}

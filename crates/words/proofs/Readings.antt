@@ -19,7 +19,7 @@ use Rattle.rules.specs.Path.{pathAt}
 use Rattle.rules.specs.Label.{labelPath, coefficient, constant}
 use Rattle.rules.specs.Word.{links, formAt, wordAt}
 use Rattle.rules.specs.Pair.{minus}
-use Rattle.words.proofs.Digits.{digit-zero, digit-one-at, digit-one-off}
+use Rattle.places.proofs.Digits.{digit-zero, digit-one-at, digit-one-off}
 use Rattle.words.proofs.Labels.{coefficient-lt, constant-lt}
 
 -- links looks at x on the path alone

@@ -13,7 +13,7 @@ use Rattle.rules.specs.Word.{symbolAt}
 use Rattle.rules.specs.Pair.{minus}
 use Rattle.rules.proofs.Range.{InRange, inShape-range, phases-least, phases-most}
 use Rattle.shape.proofs.Powers.{power-is, power-phases}
-use Rattle.words.proofs.Digits.{one-lt}
+use Rattle.places.proofs.Digits.{one-lt}
 use Rattle.reader.specs.Shown.{shown, shownUpTo, lowOf}
 use Rattle.reader.proofs.ShownLaws.{shown-lt, shownUpTo-small, shownUpTo-next, first-lt}
 use Rattle.reader.proofs.low.Statement.{statement}

@@ -1,0 +1,3 @@
+-- Laws of the digits of a place.
+pub mod Digits
+pub mod Twins
