@@ -1,6 +1,6 @@
 -- What soft and hard decoding are to answer on each way out, and that only one answer keeps each promise.
 -- In order: soft decoding refused by its shape, for eight phases, by its length, and not refused; hard decoding, with a
--- symbol refused too; whole numbers that are no more than each other, and messages with one label; soft decoding: its
+-- symbol refused too; whole numbers that are no more than each other; soft decoding: its
 -- answer is unique, and found where nothing is refused; the same of hard decoding.
 -- Not here: what holds where nothing is refused (Taken).  Assumes nothing.
 use Prim.Native.Nat.{ℕ}
@@ -15,7 +15,7 @@ use lib.ListN.{length}
 use lib.Signed.{leZ}
 use borrow.Author.Tests.{eq-eqb, ne-eqb}
 use Rattle.rules.specs.Shape.{inShape, carriers}
-use Rattle.rules.specs.Label.{labels, labelOf, messageOf}
+use Rattle.rules.specs.Label.{labels}
 use Rattle.rules.specs.Word.{wordAt, symbolAt}
 use Rattle.rules.specs.Distance.{distance}
 use Rattle.rules.specs.Soft.{softLength, correlation}
@@ -26,7 +26,7 @@ use Rattle.rules.specs.Decoding.{Loud, Near}
 use Rattle.rules.proofs.BestLaws.{best-unique}
 use Rattle.rules.proofs.OutcomeLaws.{gives-not-refuses}
 use Rattle.kinds.proofs.ToldLaws.{refusalTold-inj}
-use Rattle.words.proofs.Labels.{messageOf-labelOf}
+use Rattle.words.proofs.Labels.{labelOf-inj}
 use Rattle.decoder.specs.declared.Loudest.{Loudest}
 use Rattle.decoder.specs.declared.Closest.{Closest}
 use Rattle.decoder.specs.declared.Heard.{Heard}
@@ -83,9 +83,6 @@ leZ-antisymm (pos a) (pos b) p q = ap pos (le-antisymm (leb→le a b p) (leb→l
 leZ-antisymm (pos a) (negsuc b) p q = absurd p
 leZ-antisymm (negsuc a) (pos b) p q = absurd q
 leZ-antisymm (negsuc a) (negsuc b) p q = ap negsuc (le-antisymm (leb→le a b q) (leb→le b a p))
-
-labelOf-inj : (h m g k : ℕ) → labelOf h m g ≡ labelOf h m k → g ≡ k
-labelOf-inj h m g k e = sym (messageOf-labelOf h m g) ∙ ap (messageOf h m) e ∙ messageOf-labelOf h m k
 
 module _ (h m : ℕ) (ys : List ℤ) where
   -- the answer as the rules tell it

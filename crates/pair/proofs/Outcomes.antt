@@ -1,20 +1,22 @@
 -- What the pair check is to answer on each way out of the code.
--- In order: the shape refused; a length; a symbol; what is left to the counts, and what they require.
+-- In order: the shape refused; a length; a symbol; what is left to the counts, and what they require; back, from what is
+-- given.
 -- Assumes nothing.
 use Prim.Native.Nat.{ℕ}
 use mathlib.Core.Path.{_≡_, sym}
-use mathlib.Core.Bool.{true, false}
+use mathlib.Core.Bool.{Bool, true, false, _||_}
 use mathlib.Core.List.{List, [], _∷_}
 use mathlib.Core.Option.{none, some}
 use lib.ListN.{length}
-use borrow.Author.Tests.{eq-eqb, ne-eqb}
+use borrow.Author.Tests.{eq-eqb, ne-eqb, not-false}
 use Rattle.rules.specs.Shape.{inShape, phases, carriers}
 use Rattle.rules.specs.Pair.{golayPair}
 use Rattle.rules.specs.Word.{symbolAt}
-use Rattle.rules.specs.Outcome.{gives, refuses, refuseAt}
-use Rattle.rules.specs.Table.{badSymbol, firstBad}
+use Rattle.rules.specs.Outcome.{Outcome, gives, refuses, refuse, refuseAt}
+use Rattle.rules.specs.Table.{badShape, badLength, badSymbol, firstBad}
 use Rattle.rules.specs.Refusal.{pairOutcome}
 use Rattle.rules.proofs.Range.{inShape-range}
+use Rattle.rules.proofs.OutcomeLaws.{gives-inj, refuse-gives, refuseAt-gives}
 use Rattle.shape.proofs.SymbolLaws.{firstBad-none}
 use Rattle.pair.specs.Words.{SymbolsBelow, Words}
 
@@ -69,3 +71,18 @@ module _ (h m q : ℕ) (a b : List ℕ) (s : Sized h m q a b) where
 
       pub pair-words : Words h a b
       pair-words = record { first = below a e; second = below b f; lengths = cc }
+
+-- back: what is given is the test of a pair, and the shape is in range
+pub pair-gives : (h m : ℕ) (a b : List ℕ) (t : Bool) → pairOutcome h m a b ≡ gives t →
+    (inShape h m ≡ true) × (golayPair h m (symbolAt a) (symbolAt b) ≡ t)
+unfolding pairOutcome
+pair-gives h m a b t e =
+    let l = badLength (length a) (carriers m) || badLength (length b) (carriers m) in
+    let given : Outcome Bool = gives (golayPair h m (symbolAt a) (symbolAt b)) in
+    let second : Outcome Bool = refuseAt 3 (badSymbol h b) (2 ∷ []) given in
+    let first : Outcome Bool = refuseAt 3 (badSymbol h a) (1 ∷ []) second in
+    let p = refuse-gives 1 (badShape h m) (refuse 2 l first) t e in
+    let q = refuse-gives 2 l first t (p .1) in
+    let r = refuseAt-gives 3 (badSymbol h a) (1 ∷ []) second t (q .1) in
+    let s = refuseAt-gives 3 (badSymbol h b) (2 ∷ []) given t (r .1) in
+    (not-false _ (p .0), gives-inj (s .1))

@@ -1,4 +1,5 @@
--- Laws of the pair check. In order: the test of a pair is the claim; no word is a pair with itself.
+-- Laws of the pair check. In order: the test of a pair is the claim; words that agree below N are pairs alike; no word is
+-- a pair with itself.
 -- Assumes nothing.
 use Prim.Native.Nat.{ℕ, zero, suc, _+_, _-_, _%_, _≤_, _<_}
 use native.Mathlib.Nat.{mod-eq-of-lt, mod-lt}
@@ -10,6 +11,7 @@ use lib.Dec.{eqb}
 use lib.Pow.{pow-pos, pow-mono}
 use borrow.Author.Tests.{eq-eqb, eqb-true, ne-eqb}
 use Rattle.range.specs.Below.{sumBelow, countBelow, oneIf}
+use Rattle.range.proofs.Sums.{sumBelow-cong}
 use Rattle.range.proofs.Tests.{allBelow-of, allBelow-at, allBelow-not}
 use Rattle.range.proofs.FromOne.{fromOne-of, fromOne-at, fromOne-not}
 use Rattle.rules.specs.Shape.{phases, halfTurn, carriers}
@@ -30,6 +32,23 @@ module _ (h m : ℕ) (a b : ℕ → ℕ) where
 
   pub golayPair-iff : (golayPair h m a b ≡ true) ↔ GolayPair h m a b
   golayPair-iff = (golayPair-at, golayPair-of)
+
+-- the counts look at places below n alone
+phaseCount-cong : (h n : ℕ) (a b : ℕ → ℕ) (u k : ℕ) → ((i : ℕ) → i < n → a i ≡ b i) →
+    phaseCount h n a u k ≡ phaseCount h n b u k
+unfolding phaseCount countBelow
+phaseCount-cong h n a b u k same =
+    sumBelow-cong (n - u) _ _ (λ i l. rw (same i (omega arith), same (i + u) (omega arith)))
+
+pub golayPair-cong : (h m : ℕ) (a b c d : ℕ → ℕ) → ((i : ℕ) → i < carriers m → a i ≡ c i) →
+    ((i : ℕ) → i < carriers m → b i ≡ d i) → GolayPair h m a b → GolayPair h m c d
+unfolding pairCount
+golayPair-cong h m a b c d same same′ pair u l s k r =
+    let n = carriers m in
+    let f : (j : ℕ) → phaseCount h n a u j ≡ phaseCount h n c u j = λ j. phaseCount-cong h n a c u j same in
+    let g : (j : ℕ) → phaseCount h n b u j ≡ phaseCount h n d u j = λ j. phaseCount-cong h n b d u j same′ in
+    let j : ℕ = k + halfTurn h in
+    omega (arith, pair u l s k r, f k, g k, f j, g j)
 
 -- at the last shift one place is left, the first, with this difference
 abbrev ends : ℕ → ℕ → (ℕ → ℕ) → ℕ

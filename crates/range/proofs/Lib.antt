@@ -2,6 +2,7 @@
 pub mod Bits
 pub mod Products
 pub mod Sums
+pub mod Involutions
 pub mod Tests
 pub mod FromOne
 pub mod Lists

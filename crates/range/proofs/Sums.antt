@@ -1,6 +1,8 @@
 -- Laws of sumBelow and countBelow. In order: one more summand at the end; two parts; equal summands; zeros, all or all
--- but one; a bound; the same of counts; one turn of a loop that adds up; what lies below the whole sum.
--- Not here: tests and searches (Tests), lists (Lists).  Assumes nothing.
+-- but one; two sums as one; a bound; the same of counts; one turn of a loop that adds up; what lies below the whole
+-- sum.
+-- Not here: sums of sums, and over an involution (Involutions), tests and searches (Tests), lists (Lists).
+-- Assumes nothing.
 use Prim.Native.Nat.{ℕ, zero, suc, _+_, _*_, _≤_, _<_, zero-le, suc-le-suc}
 use native.Mathlib.Nat.{zero-add, add-zero, suc-add, le-refl, suc-mul, not-suc-le-zero, le-of-suc-le-suc}
 use native.Mathlib.Numerals.{add-one}
@@ -44,6 +46,11 @@ sumBelow-only (suc n) zero f l e =
 sumBelow-only (suc n) (suc k) f l e =
     rw (e 0 (omega arith) (omega arith)) (zero-add _ ∙ sumBelow-only n k (λ i. f (suc i)) (omega arith)
     (λ i b d. e (suc i) (suc-le-suc b) (omega arith)))
+
+pub sumBelow-sum : (n : ℕ) (f g : ℕ → ℕ) → sumBelow n f + sumBelow n g ≡ sumBelow n (λ i. f i + g i)
+unfolding sumBelow
+sumBelow-sum zero f g = refl
+sumBelow-sum (suc n) f g = omega (arith, sumBelow-sum n (λ i. f (suc i)) (λ i. g (suc i)))
 
 -- a bound on each summand bounds the sum
 pub sumBelow-le : (n b : ℕ) (f : ℕ → ℕ) → ((i : ℕ) → i < n → f i ≤ b) → sumBelow n f ≤ n * b

@@ -1,12 +1,13 @@
--- Laws of Best. In order: only one outcome satisfies it; a tied best from tests; equal values give label 0, tied; a
--- best under another measure.
+-- Laws of Best. In order: only one outcome satisfies it; a tied best from tests; equal values give label 0, tied; one
+-- that is better than every other is not tied; a best under another measure.
 -- Assumes nothing.
 use Prim.Native.Nat.{ℕ, _<_, _≤_}
 use native.Mathlib.Nat.{not-suc-le-zero, le-antisymm, lt-of-not-le, lt-trans, le-of-suc-le-suc, le-step, suc-ne-zero}
-use native.Mathlib.Decide.{decLt}
+use native.Mathlib.Nat.{ne-of-lt}
+use native.Mathlib.Decide.{decLt, ℕ-discrete}
 use mathlib.Core.Path.{_≡_, refl, sym, _∙_, subst}
-use mathlib.Core.Bool.{Bool, true, false, not}
-use mathlib.Core.Logic.{_≢_, _↔_, ∥∥₁-map}
+use mathlib.Core.Bool.{Bool, true, false, not, false≢true, Bool-set}
+use mathlib.Core.Logic.{_≢_, _↔_, ∥∥₁-elim, ∥∥₁-map}
 use lib.Dec.{T, T-not}
 use Rattle.range.specs.Below.{allBelow}
 use Rattle.range.proofs.Tests.{allBelow-at}
@@ -67,6 +68,25 @@ module _ {X : Type 0} (n : ℕ) (noBetter : X → X → Bool) (value : ℕ → X
     earliest = λ k h. absurd (not-suc-le-zero h);
     tie = (λ _. ∣ (1, two, suc-ne-zero 0, all 1) ∣₁, λ _. refl);
   }
+
+  -- one that is better than every other is best, and not tied
+  pub best-alone : (l : ℕ) → l < n → T (noBetter (value l) (value l)) →
+      ((k : ℕ) → k < n → k ≢ l → T (noBetter (value k) (value l)) × (value k ≢ value l)) →
+      Best n noBetter value l (value l) false
+  best-alone l hl self others = record {
+    inside = hl;
+    attained = refl;
+    best = λ k h. at k h (ℕ-discrete k l);
+    earliest = λ k h. others k (lt-trans h hl) (ne-of-lt h) .1;
+    tie = (
+      λ e. absurd (false≢true e),
+      λ t. ∥∥₁-elim t (Bool-set false true) (λ r. absurd (others (r .0) (r .1) (r .2) .1 (r .3))),
+    );
+  }
+    where
+      at : (k : ℕ) → k < n → Dec (k ≡ l) → T (noBetter (value k) (value l))
+      at k h (yes e) = subst (λ (j : ℕ). T (noBetter (value j) (value l))) (sym e) self
+      at k h (no ne) = others k h ne .0
 
 -- a best stays a best under another measure that keeps what is no better than it, and what is equal to it
 pub best-map : {X Y : Type 0} (n : ℕ) (noBetter : X → X → Bool) (value : ℕ → X) (otherNoBetter : Y → Y → Bool)

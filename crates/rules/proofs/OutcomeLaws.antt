@@ -1,4 +1,4 @@
--- Laws of outcomes: rules' Outcome. In order: what is given is not refused; where something is given, no test of the
+-- Laws of outcomes: rules' Outcome. In order: what is given is not refused, and is one thing; where something is given, no test of the
 -- table held, and no place was found.  Assumes nothing.
 use Prim.Native.Nat.{ℕ}
 use native.Mathlib.Omega.{arith}
@@ -11,6 +11,9 @@ use Rattle.rules.specs.Outcome.{Outcome, gives, refuses, refuse, refuseA
 module _ {A : Type 0} where
   pub gives-not-refuses : {a : A} {k : ℕ} {v : List ℕ} → gives a ≡ refuses k v → ⊥
   gives-not-refuses e = let z : _≡_ {A = ℕ} 0 1 = cc in omega arith
+
+  pub gives-inj : {a b : A} → gives a ≡ gives b → a ≡ b
+  gives-inj e = cc
 
   pub refuse-gives : (k : ℕ) (t : Bool) (o : Outcome A) (a : A) → refuse k t o ≡ gives a → (t ≡ false) × (o ≡ gives a)
   refuse-gives k true o a e = absurd (gives-not-refuses (sym e))

@@ -1,6 +1,6 @@
 -- Small sums done by hand, of the rules that no starred case reaches: the spectrum and its stages, what a four-phase
--- symbol hears, Lee distance, and the unstarred hard word of 01. What a transform leaves and refuses: AreaSamples.
--- Assumes nothing.
+-- symbol hears, Lee distance, the unstarred hard word of 01, the powers of a phase, and autocorrelations. What a
+-- transform leaves and refuses: AreaSamples.  Assumes nothing.
 use Prim.Native.Nat.{ℕ, suc}
 use mathlib.Core.Path.{_≡_, refl}
 use mathlib.Core.List.{[], _∷_, flatMap}
@@ -12,6 +12,7 @@ use Rattle.rules.specs.Path.{paths, orders, upTo, without, keep, pathAt}
 use Rattle.rules.specs.Label.{labelPath, coefficient, constant}
 use Rattle.rules.specs.Word.{links, formAt, wordAt, symbolAt}
 use Rattle.rules.specs.Pair.{minus}
+use Rattle.rules.specs.Autocorrelation.{turned, phasePower, autocorrelation}
 use Rattle.rules.specs.Soft.{heard}
 use Rattle.rules.specs.Distance.{hamming, leeOf, lee, distance}
 use Rattle.rules.specs.Spectrum.{shared, spectrumAt, stage, stages}
@@ -53,3 +54,26 @@ hard-sixteen : distance 1 16
 unfolding distance hamming countBelow sumBelow wordAt formAt links pathAt paths orders upTo listBelow without keep digit
     labelPath coefficient constant flatMap
 hard-sixteen = refl
+
+-- four phases: 1 and i are the coordinates, and the powers of i are 1, i, -1, -i
+four-powers : listBelow 4 (λ e. listBelow 2 (phasePower 2 e)) ≡
+    (pos 1 ∷ pos 0 ∷ []) ∷ (pos 0 ∷ pos 1 ∷ []) ∷ (negsuc 0 ∷ pos 0 ∷ []) ∷ (pos 0 ∷ negsuc 0 ∷ []) ∷ []
+unfolding listBelow phasePower turned
+four-powers = refl
+
+-- the starred pair 0002, 0020 of 01: at shifts 0, 1, 2, 3 they have 4, 1, 0, -1 and 4, -1, 0, 1, each with no i, which
+-- cancel from shift 1 on
+word-shifts : listBelow 4 (λ u. listBelow 2 (autocorrelation 2 4 (symbolAt (0 ∷ 0 ∷ 0 ∷ 2 ∷ [])) u)) ≡
+    (pos 4 ∷ pos 0 ∷ []) ∷ (pos 1 ∷ pos 0 ∷ []) ∷ (pos 0 ∷ pos 0 ∷ []) ∷ (negsuc 0 ∷ pos 0 ∷ []) ∷ []
+unfolding listBelow autocorrelation sumℤ minus phasePower turned
+word-shifts = refl
+
+partner-shifts : listBelow 4 (λ u. listBelow 2 (autocorrelation 2 4 (symbolAt (0 ∷ 0 ∷ 2 ∷ 0 ∷ [])) u)) ≡
+    (pos 4 ∷ pos 0 ∷ []) ∷ (negsuc 0 ∷ pos 0 ∷ []) ∷ (pos 0 ∷ pos 0 ∷ []) ∷ (pos 1 ∷ pos 0 ∷ []) ∷ []
+unfolding listBelow autocorrelation sumℤ minus phasePower turned
+partner-shifts = refl
+
+-- the later symbol is taken from the earlier one: 0 - 1 is three quarters of a turn, -i
+later-taken-away : listBelow 2 (autocorrelation 2 2 (symbolAt (0 ∷ 1 ∷ [])) 1) ≡ pos 0 ∷ negsuc 0 ∷ []
+unfolding listBelow autocorrelation sumℤ minus phasePower turned
+later-taken-away = refl

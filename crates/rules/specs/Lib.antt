@@ -6,6 +6,7 @@ pub mod Label
 pub mod Word
 pub mod Pair
 pub mod Autocorrelation
+pub mod Envelope
 pub mod Distance
 pub mod Soft
 pub mod Best

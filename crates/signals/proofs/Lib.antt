@@ -1,6 +1,11 @@
 -- Laws of soft values, correlations and distances.
 pub mod Hearing
 pub mod Distances
+pub mod Differences
+pub mod Weights
+pub mod Metric
+pub mod Damage
 pub mod Sizes
 pub mod Clean
 pub mod Units
+pub mod Noiseless

@@ -1,9 +1,9 @@
--- How many ones two places share, digit by digit, and the sign that it gives: rules' Spectrum. In order: the last digit
--- of a place, and the others; the ones shared, from those of half of each place; so too where the first place is even
--- and where it is odd; odd and its sign for one more; for a last digit more.
--- Not here: the sum over the places (Entries).  Assumes nothing.
-use Prim.Native.Nat.{ℕ, suc, _+_, _-_, _*_, _/_, _%_, _^_, _≤_}
-use native.Mathlib.Nat.{div-div-eq-div-mul, div-one, sub-self, add-zero, pow-succ'}
+-- How many ones two places share, digit by digit, and the sign that it gives: rules' Spectrum. In order: the ones
+-- shared, from those of half of each place; so too where the first place is even and where it is odd; odd and its sign
+-- for one more; for a last digit more.
+-- Not here: the digits of half a place (places' Digits), the sum over the places (Entries).  Assumes nothing.
+use Prim.Native.Nat.{ℕ, suc, _+_, _-_, _*_, _/_, _%_}
+use native.Mathlib.Nat.{add-zero}
 use native.Mathlib.Numerals.{add-one}
 use native.Mathlib.Omega.{arith}
 use mathlib.Core.Path.{_≡_, refl, sym, _∙_}
@@ -14,18 +14,7 @@ use Rattle.range.proofs.Bits.{bit-cases}
 use Rattle.range.proofs.Sums.{sumBelow-suc, sumBelow-cong}
 use Rattle.rules.specs.Place.{digit}
 use Rattle.rules.specs.Spectrum.{odd, shared}
-
--- the last digit
-pub digit-last : (m i : ℕ) → digit m i m ≡ i % 2
-unfolding digit
-digit-last m i = rw (sub-self, div-one)
-
--- the other digits are those of half the place
-pub digit-half : (m i k : ℕ) → k ≤ m → digit (suc m) i k ≡ digit m (i / 2) k
-unfolding digit
-digit-half m i k h =
-    let e : suc m - k ≡ suc (m - k) = omega arith in
-    rw (e, pow-succ' 2 (m - k), ← (div-div-eq-div-mul i 2 (2 ^ (m - k))))
+use Rattle.places.proofs.Digits.{digit-last, digit-half}
 
 -- the last digits share a one where both are 1
 pub shared-half : (m i j : ℕ) → shared (suc m) i j ≡ shared m (i / 2) (j / 2) + i % 2 * (j % 2)

@@ -44,6 +44,9 @@ pub wordOf-at : (h m g i : ℕ) → i < carriers m → getD (wordOf h m g) i 0 �
 unfolding wordOf
 wordOf-at h m g i l = listBelow-at (carriers m) (wordAt h m (labelOf h m g)) i 0 l
 
+pub wordOf-lt : (h m g i : ℕ) → i < carriers m → getD (wordOf h m g) i 0 < phases h
+wordOf-lt h m g i l = rw (wordOf-at h m g i l) (wordAt-lt h m (labelOf h m g) i)
+
 pub length-partnerOf : (h m g : ℕ) → length (partnerOf h m g) ≡ carriers m
 unfolding partnerOf
 length-partnerOf h m g = length-listBelow (carriers m) _
@@ -51,3 +54,6 @@ length-partnerOf h m g = length-listBelow (carriers m) _
 pub partnerOf-at : (h m g i : ℕ) → i < carriers m → getD (partnerOf h m g) i 0 ≡ partnerAt h m (labelOf h m g) i
 unfolding partnerOf
 partnerOf-at h m g i l = listBelow-at (carriers m) (partnerAt h m (labelOf h m g)) i 0 l
+
+pub partnerOf-lt : (h m g i : ℕ) → i < carriers m → getD (partnerOf h m g) i 0 < phases h
+partnerOf-lt h m g i l = rw (partnerOf-at h m g i l) (partnerAt-lt h m (labelOf h m g) i)

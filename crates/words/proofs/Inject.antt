@@ -1,16 +1,13 @@
--- The law that the word determines its label: 001 Corollary 4, 01 "What a logger may send". In order: sums modulo q
--- with an equal summand; multiples of half the phases; the links at the place with two digits; a path by its
--- quadratic part; what two labels with the
--- same word share, part by part; the law for labels, and for messages.
--- Not here: what a word shows at single places (Readings), what is known of the paths in use (Used).  Assumes nothing.
-use Prim.Native.Nat.{ℕ, suc, _+_, _-_, _*_, _/_, _%_, _^_, _≤_, _<_, zero-le, suc-le-suc}
-use native.Mathlib.Nat.{add-assoc, mod-add-mod, add-mul-mod-self-right, div-add-mod', suc-mul, mod-lt, mul-div-cancel}
-use native.Mathlib.Nat.{mul-mod-left, mul-comm, eq-of-mul-eq-mul-right, add-zero}
-use native.Mathlib.Omega.{arith}
+-- The law that the word determines its label: 001 Corollary 4, 01 "What a logger may send". In order: the links at the
+-- place with two digits; a path by its quadratic part; what two labels with the same word share, part by part; the law
+-- for labels, and for messages.
+-- Not here: what a word shows at single places (Readings), what is known of the paths in use (Used), sums modulo q and
+-- multiples of half a turn (Halves).  Assumes nothing.
+use Prim.Native.Nat.{ℕ, suc, _+_, _-_, _*_, _%_, _^_, _≤_, _<_, zero-le, suc-le-suc}
+use native.Mathlib.Nat.{add-assoc}
 use mathlib.Core.Path.{_≡_, refl, sym, _∙_, ap, ap₂}
 use mathlib.Core.Bool.{Bool, true, false, _||_}
 use mathlib.Core.List.{List}
-use lib.Arith.{mod-mul}
 use lib.Dec.{T, eqb}
 use lib.ListN.{getD}
 use lib.Pow.{pow-pos}
@@ -19,11 +16,10 @@ use Rattle.range.specs.Below.{oneIf}
 use Rattle.range.proofs.Sums.{sumBelow-cong}
 use Rattle.rules.specs.Shape.{phases, halfTurn, carriers, messages, pathsInUse, inM}
 use Rattle.rules.specs.Place.{digit}
-use Rattle.rules.specs.Path.{IsPath, pathAt}
+use Rattle.rules.specs.Path.{IsPath}
 use Rattle.rules.specs.Label.{labels, labelPath, coefficient, constant, labelOf, messageOf}
 use Rattle.rules.specs.Word.{links, formAt, wordAt, wordOf}
 use Rattle.rules.specs.Pair.{minus}
-use Rattle.rules.proofs.Range.{phases-half}
 use Rattle.paths.proofs.Increasing.{pathAt-inj}
 use Rattle.paths.proofs.Pairs.{onPair}
 use Rattle.paths.proofs.Links.{path-of-links}
@@ -31,31 +27,8 @@ use Rattle.places.proofs.Digits.{one-lt, twoAt, digit-two-lt, digit-two-first, 
 use Rattle.words.proofs.Labels.{label-inj, labelPath-lt, messageOf-labelOf, labelOf-lt}
 use Rattle.words.proofs.Forms.{wordOf-at}
 use Rattle.words.proofs.Used.{isPath-good, used-lt, used-isPath, labelPath-good}
-use Rattle.words.proofs.Readings.{Good, links-cong, linear, wordAt-zero, coefficient-read}
-
--- s and what completes it to a multiple of q
-multiple : (q s : ℕ) → 0 < q → suc (s / q) * q ≡ s + (q - s % q)
-multiple q s p = omega (arith, suc-mul (s / q) q, div-add-mod' s q, mod-lt s p)
-
-complete : (q x s : ℕ) → 0 < q → x % q ≡ ((x + s) % q + (q - s % q)) % q
-complete q x s p =
-    sym (add-mul-mod-self-right x (suc (s / q)) q)
-    ∙ rw (multiple q s p, ← (add-assoc x s (q - s % q))) (sym (mod-add-mod (x + s) q (q - s % q)))
-
-mod-cancel : (q x y s : ℕ) → 0 < q → (x + s) % q ≡ (y + s) % q → x % q ≡ y % q
-mod-cancel q x y s p e = complete q x s p ∙ rw e (sym (complete q y s p))
-
--- a multiple of c modulo 2 c tells the parity of the factor
-double-mod : (c x : ℕ) → 0 < c → c * x % (2 * c) ≡ x % 2 * c
-double-mod c x p =
-    rw (mul-comm c x) (mod-mul (x * c) (omega arith) p ∙ rw (mul-div-cancel x p, mul-mod-left) (add-zero _))
-
-half-mod : (h x : ℕ) → 1 ≤ h → halfTurn h * x % phases h ≡ x % 2 * halfTurn h
-half-mod h x b = rw (phases-half h b) (double-mod (halfTurn h) x (pow-pos (h - 1)))
-
-half-parity : (h x y : ℕ) → 1 ≤ h → halfTurn h * x % phases h ≡ halfTurn h * y % phases h → x % 2 ≡ y % 2
-half-parity h x y b e =
-    eq-of-mul-eq-mul-right (halfTurn h) (pow-pos (h - 1)) (x % 2) (y % 2) (sym (half-mod h x b) ∙ e ∙ half-mod h y b)
+use Rattle.words.proofs.Readings.{Good, links-cong, linked, linear, wordAt-zero, coefficient-read}
+use Rattle.words.proofs.Halves.{mod-cancel, half-parity}
 
 module _ (m a b : ℕ) (la : 1 ≤ a) (lb : a < b) (lm : b ≤ m) where
   digit-onPair : (j : ℕ) → j ≤ m → digit m (twoAt m a b) j ≡ onPair a b j
@@ -79,10 +52,6 @@ path-of-form m p q s t same =
     (λ a b la lb lm. ap (λ (n : ℕ). n % 2) (sym (links-onPair m a b la lb lm p (isPath-good m p s)))
     ∙ same (twoAt m a b) (digit-two-lt m a b la lb lm)
     ∙ ap (λ (n : ℕ). n % 2) (links-onPair m a b la lb lm q (isPath-good m q t)))
-
--- the links of label l at place i
-abbrev linked : ℕ → ℕ → ℕ → ℕ → ℕ
-linked h m l i = links (digit m i) (pathAt m (labelPath h m l))
 
 wordAt-parts : (h m l i : ℕ) →
     wordAt h m l i ≡ (halfTurn h * linked h m l i + (linear h m l i + constant h l)) % phases h

@@ -7,7 +7,7 @@ use native.Mathlib.Nat.{pow-zero, pow-suc, pow-succ', mul-zero, mul-suc, mod-lt,
 use native.Mathlib.Nat.{le-refl, div-one, mul-one, mul-comm, suc-mul}
 use native.Mathlib.Decide.{ℕ-discrete}
 use native.Mathlib.Omega.{arith}
-use mathlib.Core.Path.{_≡_, refl, sym, _∙_}
+use mathlib.Core.Path.{_≡_, refl, sym, _∙_, ap}
 use lib.Arith.{digits-lt, digits-div, digits-mod}
 use lib.Pow.{pow-pos, pow-add, shr-lt}
 use Rattle.rules.specs.Shape.{phases, pathsInUse, pathBits, messages}
@@ -153,6 +153,9 @@ messageOf-labelOf h m g = refl
 pub labelOf-messageOf : (h m l : ℕ) → labelOf h m (messageOf h m l) ≡ l
 unfolding labelOf messageOf
 labelOf-messageOf h m l = refl
+
+pub labelOf-inj : (h m g k : ℕ) → labelOf h m g ≡ labelOf h m k → g ≡ k
+labelOf-inj h m g k e = sym (messageOf-labelOf h m g) ∙ ap (messageOf h m) e ∙ messageOf-labelOf h m k
 
 pub labelOf-lt : (h m g : ℕ) → g < messages h m → labelOf h m g < labels h m
 unfolding labelOf

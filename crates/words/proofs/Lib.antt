@@ -6,5 +6,9 @@ pub mod Order
 pub mod Forms
 pub mod Readings
 pub mod Used
+pub mod Halves
 pub mod Inject
 pub mod Partners
+pub mod Around
+pub mod Before
+pub mod FourForms

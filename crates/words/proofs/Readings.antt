@@ -62,6 +62,10 @@ links-digit-one m k p g l = links-zero (digit m (2 ^ (m - k))) p (λ i b.
     one-product m k (getD p i 0) (getD p (suc i) 0) l (g .within i (omega arith)) (g .within (suc i) b) (g .apart i b)
     (ℕ-discrete (getD p i 0) k))
 
+-- the links of label l at place i
+abbrev pub linked : ℕ → ℕ → ℕ → ℕ → ℕ
+linked h m l i = links (digit m i) (pathAt m (labelPath h m l))
+
 -- the linear part of the form at place i
 abbrev pub linear : ℕ → ℕ → ℕ → ℕ → ℕ
 linear h m l i = sumBelow m (λ k. coefficient h m l (suc k) * digit m i (suc k))

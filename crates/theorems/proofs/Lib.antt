@@ -1,0 +1,4 @@
+-- The theorems, proved: Proved has the whole index, the others what its claims about the calls need.
+pub mod Slices
+pub mod Pairs
+pub mod Ones

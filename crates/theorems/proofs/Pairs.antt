@@ -1,0 +1,100 @@
+-- Golay pairs, from the definitions to the calls. In order: the word and the partner as lists; the pair check on what
+-- encode and partner write, on a word and itself, and on words that cancel; the autocorrelations at shift 0.
+-- Not here: that word and partner are a pair, and that pairs are words that cancel (crate golay).  Assumes nothing.
+use Prim.Native.Nat.{ℕ, _+_, _*_, _≤_, _<_}
+use native.Mathlib.Nat.{mul-assoc}
+use native.Mathlib.Omega.{arith}
+use mathlib.Core.Path.{_≡_, refl, sym, _∙_, ap, ap₂}
+use mathlib.Core.Bool.{true, false, true≢false}
+use mathlib.Core.List.{List}
+use mathlib.Core.Logic.{_≢_}
+use lib.Dec.{eqb}
+use lib.IntN.{pos, _+ℤ_}
+use Rattle.range.specs.Below.{oneIf}
+use Rattle.rules.specs.Shape.{inShape, halfTurn, carriers, messages}
+use Rattle.rules.specs.Label.{labelOf}
+use Rattle.rules.specs.Word.{wordAt, partnerAt, wordOf, partnerOf, symbolAt}
+use Rattle.rules.specs.Pair.{GolayPair, golayPair}
+use Rattle.rules.specs.Autocorrelation.{autocorrelation, Cancel}
+use Rattle.rules.specs.Outcome.{gives}
+use Rattle.rules.specs.Refusal.{pairOutcome}
+use Rattle.rules.proofs.Range.{inShape-range, range-inM}
+use Rattle.words.proofs.Labels.{labelOf-lt}
+use Rattle.words.proofs.Forms.{wordAt-lt, partnerAt-lt, wordOf-at, partnerOf-at}
+use Rattle.golay.proofs.Autocorrelations.{golayPair-iff-cancel, autocorrelation-whole}
+use Rattle.golay.proofs.LabelPairs.{golayPair-word-partner}
+use Rattle.pair.specs.declared.Paired.{Paired}
+use Rattle.pair.specs.declared.Paired.the-variants.{Yes, No}
+use Rattle.pair.specs.Told.{pairedTold}
+use Rattle.pair.proofs.Pairs.{golayPair-at, golayPair-of, golayPair-cong, golayPair-self}
+use Rattle.pair.proofs.Outcomes.{Sized, pair-given, pair-gives}
+use Rattle.pair.proofs.Told.{pairedTold-inj}
+use Rattle.theorems.specs.Theorems.{word, partner, Encodes, Partners}
+use Rattle.theorems.proofs.Slices.{symbols-none, wordOf-symbols, partnerOf-symbols, done-shape, done-message}
+use Rattle.theorems.proofs.Slices.{done-word}
+
+module _ (h m g : ℕ) (shape : inShape h m ≡ true) (taken : g < messages h m) where
+  pub word-partner : GolayPair h m (word h m g) (partner h m g)
+  word-partner =
+      let r = inShape-range h m shape in
+      golayPair-word-partner h m (labelOf h m g) (r .h-least) (range-inM h m r) (labelOf-lt h m g taken)
+
+  pub partner-cancels : Cancel h m (word h m g) (partner h m g)
+  partner-cancels =
+      golayPair-iff-cancel h m (word h m g) (partner h m g) (inShape-range h m shape .h-least) .0 word-partner
+
+  -- the two lists
+  lists-pair : golayPair h m (symbolAt (wordOf h m g)) (symbolAt (partnerOf h m g)) ≡ true
+  lists-pair =
+      golayPair-of h m _ _ (golayPair-cong h m (word h m g) (partner h m g) _ _ (λ i l. sym (wordOf-at h m g i l))
+      (λ i l. sym (partnerOf-at h m g i l)) word-partner)
+
+  lists-yes : gives true ≡ pairOutcome h m (wordOf h m g) (partnerOf h m g)
+  lists-yes =
+      let a = wordOf-symbols h m g in
+      let b = partnerOf-symbols h m g in
+      let s : Sized h m _ (wordOf h m g) (partnerOf h m g) =
+      record { shape = shape; turn = refl; first = a .long; second = b .long } in
+      ap gives (sym lists-pair)
+      ∙ pair-given h m _ (wordOf h m g) (partnerOf h m g) s (symbols-none h m _ a) (symbols-none h m _ b)
+
+pub written-pair : (h m g : ℕ) (d e w v : List ℕ) (t : Paired) → Encodes h m g d w → Partners h m g e v →
+    pairedTold t ≡ pairOutcome h m w v → t ≡ Yes
+written-pair h m g d e w v t p q told =
+    pairedTold-inj t Yes (told ∙ ap₂ (pairOutcome h m) (done-word p) (done-word q)
+    ∙ sym (lists-yes h m g (done-shape p) (done-message p)))
+
+pub self-no-pair : (h m : ℕ) (a : ℕ → ℕ) → 1 ≤ h → 1 ≤ m → GolayPair h m a a → ⊥
+self-no-pair h m a p q pair = true≢false (sym (golayPair-of h m a a pair) ∙ golayPair-self h m a p q)
+
+pub self-not-yes : (h m : ℕ) (w : List ℕ) (t : Paired) → pairedTold t ≡ pairOutcome h m w w → t ≢ Yes
+self-not-yes h m w t told e =
+    let given = pair-gives h m w w true (sym told ∙ ap pairedTold e) in
+    let r = inShape-range h m (given .0) in
+    self-no-pair h m (symbolAt w) (r .h-least) (omega (arith, r .m-least)) (golayPair-at h m _ _ (given .1))
+
+pub yes-cancels : (h m : ℕ) (w v : List ℕ) → pairedTold Yes ≡ pairOutcome h m w v → Cancel h m (symbolAt w) (symbolAt v)
+yes-cancels h m w v told =
+    let given = pair-gives h m w v true (sym told) in
+    golayPair-iff-cancel h m (symbolAt w) (symbolAt v) (inShape-range h m (given .0) .h-least) .0
+    (golayPair-at h m (symbolAt w) (symbolAt v) (given .1))
+
+pub no-cancels-not : (h m : ℕ) (w v : List ℕ) → pairedTold No ≡ pairOutcome h m w v →
+    Cancel h m (symbolAt w) (symbolAt v) → ⊥
+no-cancels-not h m w v told cancel =
+    let given = pair-gives h m w v false (sym told) in
+    let pair : GolayPair h m (symbolAt w) (symbolAt v) =
+    golayPair-iff-cancel h m (symbolAt w) (symbolAt v) (inShape-range h m (given .0) .h-least) .1 cancel in
+    true≢false (sym (golayPair-of h m (symbolAt w) (symbolAt v) pair) ∙ given .1)
+
+pub power-together : (h m g t : ℕ) → inShape h m ≡ true → g < messages h m → t < halfTurn h →
+    autocorrelation h (carriers m) (word h m g) 0 t +ℤ autocorrelation h (carriers m) (partner h m g) 0 t
+    ≡ pos (2 * carriers m * oneIf (eqb t 0))
+power-together h m g t shape taken b =
+    let one = inShape-range h m shape .h-least in
+    let l : ℕ = labelOf h m g in
+    let c : ℕ = carriers m * oneIf (eqb t 0) in
+    let e : 2 * carriers m * oneIf (eqb t 0) ≡ c + c = mul-assoc 2 (carriers m) (oneIf (eqb t 0)) ∙ omega arith in
+    ap₂ _+ℤ_ (autocorrelation-whole h (carriers m) (wordAt h m l) t one (λ i _. wordAt-lt h m l i) b)
+    (autocorrelation-whole h (carriers m) (partnerAt h m l) t one (λ i _. partnerAt-lt h m l i) b)
+    ∙ ap pos (sym e)

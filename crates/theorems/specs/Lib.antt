@@ -1,0 +1,2 @@
+-- The index of theorems.
+pub mod Theorems

@@ -1,0 +1,102 @@
+-- What turning over one digit does to the links of a list of digits' numbers, modulo 2: rules' Word.
+-- Defines:  Turned m a x y    y is x with digit a turned over, among the digits up to m
+--           around a x p      the sum of x over the neighbours of a in p
+-- In order: a digit turned over and the others; the rest of a good list; the links, with and without one digit turned
+-- over, add up to what stands around it; what stands around one digit, with and without another turned over, adds up
+-- to the links of the two.
+-- Not here: where two functions first differ (Before), the forms at four places (FourForms).  Assumes nothing.
+use Prim.Native.Nat.{ℕ, suc, _+_, _*_, _%_, _≤_, _<_, suc-le-suc}
+use native.Mathlib.Decide.{ℕ-discrete}
+use native.Mathlib.Omega.{arith}
+use mathlib.Core.Path.{_≡_, refl, sym, _∙_, ap}
+use mathlib.Core.Logic.{_≢_}
+use mathlib.Core.List.{List, [], _∷_}
+use lib.Dec.{eqb}
+use lib.ListN.{length, getD}
+use borrow.Author.Tests.{eq-eqb, ne-eqb}
+use Rattle.range.specs.Below.{oneIf}
+use Rattle.rules.specs.Word.{links}
+use Rattle.paths.proofs.Times.{Distinct, distinct-tail}
+use Rattle.paths.proofs.Pairs.{onPair, onPair-left, onPair-right, onPair-other, second-other}
+use Rattle.words.proofs.Readings.{Good}
+
+pub record Turned (m a : ℕ) (x y : ℕ → ℕ) : Type 0 where
+  pub at : x a + y a ≡ 1
+  pub off : (k : ℕ) → k ≤ m → k ≢ a → y k ≡ x k
+
+unfoldable pub around : ℕ → (ℕ → ℕ) → List ℕ → ℕ
+around a x [] = 0
+around a x (u ∷ []) = 0
+around a x (u ∷ (v ∷ p)) = oneIf (eqb u a) * x v + oneIf (eqb v a) * x u + around a x (v ∷ p)
+
+good-tail : (m u : ℕ) (p : List ℕ) → Good m (u ∷ p) → Good m p
+good-tail m u p g = record {
+  within = λ i l. g .within (suc i) (suc-le-suc l);
+  apart = λ i l. g .apart (suc i) (suc-le-suc l);
+}
+
+module _ (m a : ℕ) (x y : ℕ → ℕ) (t : Turned m a x y) where
+  turned-here : (k : ℕ) → k ≡ a → x k + y k ≡ 1
+  turned-here k e = rw e (t .at)
+
+  -- a product with digit a and another digit, with and without digit a turned over
+  turned-one : (u v : ℕ) → v ≤ m → u ≡ a → v ≢ a → x u * x v + y u * y v ≡ x v
+  turned-one u v l e n = rw (t .off v l n) (omega (arith, ap (λ (k : ℕ). k * x v) (turned-here u e)))
+
+  turned-product : (u v : ℕ) → u ≤ m → v ≤ m → u ≢ v →
+      (x u * x v + y u * y v) % 2 ≡ (oneIf (eqb u a) * x v + oneIf (eqb v a) * x u) % 2
+  turned-product u v lu lv n = at (ℕ-discrete u a) (ℕ-discrete v a)
+    where
+      at : Dec (u ≡ a) → Dec (v ≡ a) →
+          (x u * x v + y u * y v) % 2 ≡ (oneIf (eqb u a) * x v + oneIf (eqb v a) * x u) % 2
+      at (yes e) (yes f) = absurd (n (e ∙ sym f))
+      at (yes e) (no f) = rw (eq-eqb u a e, ne-eqb v a f) (omega (arith, turned-one u v lv e f))
+      at (no e) (yes f) = rw (ne-eqb u a e, eq-eqb v a f) (omega (arith, turned-one v u lu f e))
+      at (no e) (no f) = rw (ne-eqb u a e, ne-eqb v a f, t .off u lu e, t .off v lv f) (omega arith)
+
+pub links-turned : (m a : ℕ) (x y : ℕ → ℕ) (p : List ℕ) → Good m p → Turned m a x y →
+    (links x p + links y p) % 2 ≡ around a x p % 2
+unfolding links around
+links-turned m a x y [] g t = refl
+links-turned m a x y (u ∷ []) g t = refl
+links-turned m a x y (u ∷ (v ∷ p)) g t =
+    let first = turned-product m a x y t u v (g .within 0 (omega arith)) (g .within 1 (omega arith))
+    (g .apart 0 (omega arith)) in
+    omega (arith, first, links-turned m a x y (v ∷ p) (good-tail m u (v ∷ p) g) t)
+
+module _ (m a b : ℕ) (x y : ℕ → ℕ) (n : a ≢ b) (t : Turned m b x y) where
+  -- digit k, with and without digit b turned over
+  turned-sum : (k : ℕ) → k ≤ m → k ≢ a → (x k + y k) % 2 ≡ onPair a b k
+  turned-sum k l d = at (ℕ-discrete k b)
+    where
+      at : Dec (k ≡ b) → (x k + y k) % 2 ≡ onPair a b k
+      at (yes e) = rw (onPair-right a b k e, turned-here m b x y t k e)
+      at (no e) = rw (onPair-other a b k d e, t .off k l e) (omega arith)
+
+  turned-neighbours : (u v : ℕ) → u ≤ m → v ≤ m → u ≢ v →
+      (oneIf (eqb u a) * x v + oneIf (eqb v a) * x u + (oneIf (eqb u a) * y v + oneIf (eqb v a) * y u)) % 2
+      ≡ onPair a b u * onPair a b v
+  turned-neighbours u v lu lv d = at (ℕ-discrete u a) (ℕ-discrete v a)
+    where
+      apart : u ≢ a → v ≢ a → Dec (u ≡ b) → onPair a b u * onPair a b v ≡ 0
+      apart e f (yes g) = rw (onPair-other a b v f (λ i. d (g ∙ sym i))) (omega arith)
+      apart e f (no g) = rw (onPair-other a b u e g) (omega arith)
+
+      at : Dec (u ≡ a) → Dec (v ≡ a) →
+          (oneIf (eqb u a) * x v + oneIf (eqb v a) * x u + (oneIf (eqb u a) * y v + oneIf (eqb v a) * y u)) % 2
+          ≡ onPair a b u * onPair a b v
+      at (yes e) (yes f) = absurd (d (e ∙ sym f))
+      at (yes e) (no f) = rw (eq-eqb u a e, ne-eqb v a f, onPair-left a b u e) (omega (arith, turned-sum v lv f))
+      at (no e) (yes f) = rw (ne-eqb u a e, eq-eqb v a f, onPair-left a b v f) (omega (arith, turned-sum u lu e))
+      at (no e) (no f) = rw (ne-eqb u a e, ne-eqb v a f) (omega (arith, apart e f (ℕ-discrete u b)))
+
+pub around-turned : (m a b : ℕ) (x y : ℕ → ℕ) (p : List ℕ) → Distinct p →
+    ((i : ℕ) → i < length p → getD p i 0 ≤ m) → a ≢ b → Turned m b x y →
+    (around a x p + around a y p) % 2 ≡ links (onPair a b) p % 2
+unfolding links around
+around-turned m a b x y [] d w n t = refl
+around-turned m a b x y (u ∷ []) d w n t = refl
+around-turned m a b x y (u ∷ (v ∷ p)) d w n t =
+    let first = turned-neighbours m a b x y n t u v (w 0 (omega arith)) (w 1 (omega arith)) (second-other u v p d) in
+    let rest = around-turned m a b x y (v ∷ p) (distinct-tail u (v ∷ p) d) (λ i l. w (suc i) (suc-le-suc l)) n t in
+    omega (arith, first, rest)

@@ -1,0 +1,44 @@
+-- Sums modulo q with an equal summand, and multiples of half a turn modulo the phases: rules' Shape. In order: what
+-- completes a number to a multiple; an equal summand taken off and added; a multiple of c modulo 2 c; multiples of half
+-- a turn tell the parity of the factor, and depend on it alone.
+-- Not here: what follows for words (Inject) and for forms (FourForms).  Assumes nothing.
+use Prim.Native.Nat.{ℕ, suc, _+_, _-_, _*_, _/_, _%_, _≤_, _<_}
+use native.Mathlib.Nat.{add-assoc, mod-add-mod, add-mul-mod-self-right, div-add-mod', suc-mul, mod-lt, mul-div-cancel}
+use native.Mathlib.Nat.{mul-mod-left, mul-comm, eq-of-mul-eq-mul-right, add-zero}
+use native.Mathlib.Omega.{arith}
+use mathlib.Core.Path.{_≡_, sym, _∙_, ap}
+use lib.Arith.{mod-mul}
+use lib.Pow.{pow-pos}
+use Rattle.rules.specs.Shape.{phases, halfTurn}
+use Rattle.rules.proofs.Range.{phases-half}
+
+-- s and what completes it to a multiple of q
+multiple : (q s : ℕ) → 0 < q → suc (s / q) * q ≡ s + (q - s % q)
+multiple q s p = omega (arith, suc-mul (s / q) q, div-add-mod' s q, mod-lt s p)
+
+complete : (q x s : ℕ) → 0 < q → x % q ≡ ((x + s) % q + (q - s % q)) % q
+complete q x s p =
+    sym (add-mul-mod-self-right x (suc (s / q)) q)
+    ∙ rw (multiple q s p, ← (add-assoc x s (q - s % q))) (sym (mod-add-mod (x + s) q (q - s % q)))
+
+pub mod-cancel : (q x y s : ℕ) → 0 < q → (x + s) % q ≡ (y + s) % q → x % q ≡ y % q
+mod-cancel q x y s p e = complete q x s p ∙ rw e (sym (complete q y s p))
+
+pub mod-extend : (q x y s : ℕ) → x % q ≡ y % q → (x + s) % q ≡ (y + s) % q
+mod-extend q x y s e =
+    sym (mod-add-mod x q s) ∙ ap (λ (k : ℕ). (k + s) % q) e ∙ mod-add-mod y q s
+
+-- a multiple of c modulo 2 c tells the parity of the factor
+double-mod : (c x : ℕ) → 0 < c → c * x % (2 * c) ≡ x % 2 * c
+double-mod c x p =
+    rw (mul-comm c x) (mod-mul (x * c) (omega arith) p ∙ rw (mul-div-cancel x p, mul-mod-left) (add-zero _))
+
+half-mod : (h x : ℕ) → 1 ≤ h → halfTurn h * x % phases h ≡ x % 2 * halfTurn h
+half-mod h x b = rw (phases-half h b) (double-mod (halfTurn h) x (pow-pos (h - 1)))
+
+pub half-parity : (h x y : ℕ) → 1 ≤ h → halfTurn h * x % phases h ≡ halfTurn h * y % phases h → x % 2 ≡ y % 2
+half-parity h x y b e =
+    eq-of-mul-eq-mul-right (halfTurn h) (pow-pos (h - 1)) (x % 2) (y % 2) (sym (half-mod h x b) ∙ e ∙ half-mod h y b)
+
+pub half-of-parity : (h x y : ℕ) → 1 ≤ h → x % 2 ≡ y % 2 → halfTurn h * x % phases h ≡ halfTurn h * y % phases h
+half-of-parity h x y b e = half-mod h x b ∙ ap (λ (k : ℕ). k * halfTurn h) e ∙ sym (half-mod h y b)
