@@ -1,6 +1,5 @@
 -- Laws of the digits of a place: rules' Place. In order: bounds; the last digit and the others, and the place from its
--- digits; bits of a power of two, and of a sum with one; the digits of place 0, of a place with one digit, and of a
--- place with two digits.
+-- digits; bits of a power of two, and of a sum with one; the digits of place 0, and of a place with one digit.
 -- Not here: two places that differ in one digit (Twins), one digit turned over (Flips); words' labels (Labels) and
 -- words (Readings).  Assumes nothing.
 use Prim.Native.Nat.{ℕ, zero, suc, _+_, _-_, _/_, _%_, _^_, _≤_, _<_}
@@ -10,7 +9,7 @@ use native.Mathlib.Decide.{decLt}
 use native.Mathlib.Omega.{arith}
 use mathlib.Core.Path.{_≡_, sym, _∙_, ap}
 use mathlib.Core.Logic.{_≢_}
-use lib.Pow.{pow-pos, pow-lt, pow-add, pow-mono}
+use lib.Pow.{pow-pos, pow-lt, pow-add}
 use Rattle.rules.specs.Shape.{carriers}
 use Rattle.rules.specs.Place.{digit}
 
@@ -60,18 +59,9 @@ pow-over x u s h =
 pub bit-below : (x u s : ℕ) → u < s → (2 ^ s + x) / 2 ^ u % 2 ≡ x / 2 ^ u % 2
 bit-below x u s h = rw (pow-over x u s (omega arith)) (omega (arith, pow-even (s - u) (omega arith)))
 
--- above it, there is nothing
-bit-above : (x u s : ℕ) → s < u → x < 2 ^ s → (2 ^ s + x) / 2 ^ u % 2 ≡ 0
-bit-above x u s h l =
-    let small : 2 ^ s + x < 2 ^ u = omega (arith, pow-suc 2 s, pow-mono {i = suc s} {j = u} h) in
-    rw (div-eq-of-lt small)
-
-bit-at : (x s : ℕ) → x < 2 ^ s → (2 ^ s + x) / 2 ^ s % 2 ≡ 1
-bit-at x s l = rw (pow-over x s s (le-refl s), sub-self, div-eq-of-lt l)
-
-one-off : (t u : ℕ) → u ≢ t → Dec (u < t) → (2 ^ t + 0) / 2 ^ u % 2 ≡ 0
-one-off t u n (yes h) = bit-below 0 u t h ∙ rw zero-div
-one-off t u n (no g) = bit-above 0 u t (omega arith) (pow-pos t)
+one-off : (t u : ℕ) → u ≢ t → Dec (u < t) → 2 ^ t / 2 ^ u % 2 ≡ 0
+one-off t u n (yes h) = rw (← (add-zero (2 ^ t))) (bit-below 0 u t h ∙ rw zero-div)
+one-off t u n (no g) = rw (div-eq-of-lt (pow-lt {i = t} {j = u} (omega arith)))
 
 pub digit-zero : (m k : ℕ) → digit m 0 k ≡ 0
 unfolding digit
@@ -83,32 +73,4 @@ digit-one-at m k = rw (div-self (pow-pos (m - k)))
 
 pub digit-one-off : (m k j : ℕ) → k ≤ m → j ≤ m → j ≢ k → digit m (2 ^ (m - k)) j ≡ 0
 unfolding digit
-digit-one-off m k j a b n =
-    rw (← (add-zero (2 ^ (m - k)))) (one-off (m - k) (m - j) (omega arith) (decLt (m - j) (m - k)))
-
--- the place with the digits a and b alone
-abbrev pub twoAt : ℕ → ℕ → ℕ → ℕ
-twoAt m a b = 2 ^ (m - a) + 2 ^ (m - b)
-
-module _ (m a b : ℕ) (la : 1 ≤ a) (lb : a < b) (lm : b ≤ m) where
-  below : 2 ^ (m - b) < 2 ^ (m - a)
-  below = pow-lt (omega arith)
-
-  pub digit-two-lt : twoAt m a b < 2 ^ m
-  digit-two-lt = omega (arith, below, pow-suc 2 (m - a), pow-mono {i = suc (m - a)} {j = m} (omega arith))
-
-  pub digit-two-first : digit m (twoAt m a b) a ≡ 1
-  unfolding digit
-  digit-two-first = bit-at (2 ^ (m - b)) (m - a) below
-
-  pub digit-two-second : digit m (twoAt m a b) b ≡ 1
-  unfolding digit
-  digit-two-second = bit-below (2 ^ (m - b)) (m - b) (m - a) (omega arith) ∙ digit-one-at m b
-
-  two-off : (j : ℕ) → j ≤ m → j ≢ a → j ≢ b → Dec (a < j) → digit m (twoAt m a b) j ≡ 0
-  unfolding digit
-  two-off j l p q (yes h) = bit-below (2 ^ (m - b)) (m - j) (m - a) (omega arith) ∙ digit-one-off m b j lm l q
-  two-off j l p q (no g) = bit-above (2 ^ (m - b)) (m - j) (m - a) (omega arith) below
-
-  pub digit-two-off : (j : ℕ) → j ≤ m → j ≢ a → j ≢ b → digit m (twoAt m a b) j ≡ 0
-  digit-two-off j l p q = two-off j l p q (decLt a j)
+digit-one-off m k j a b n = one-off (m - k) (m - j) (omega arith) (decLt (m - j) (m - k))

@@ -1,13 +1,13 @@
--- Laws of sumBelow and countBelow. In order: one more summand at the end; two parts; equal summands; zeros, all or all
--- but one; two sums as one; a bound; the same of counts; one turn of a loop that adds up; what lies below the whole
--- sum.
+-- Laws of sumBelow and countBelow. In order: one more summand at the end; two parts; equal summands; zeros; equal
+-- summands but one, and zeros but one; two sums as one; a bound from above, and from below; the same of counts; one
+-- turn of a loop that adds up; what lies below the whole sum.
 -- Not here: sums of sums, and over an involution (Involutions), tests and searches (Tests), lists (Lists).
 -- Assumes nothing.
 use Prim.Native.Nat.{ℕ, zero, suc, _+_, _*_, _≤_, _<_, zero-le, suc-le-suc}
-use native.Mathlib.Nat.{zero-add, add-zero, suc-add, le-refl, suc-mul, not-suc-le-zero, le-of-suc-le-suc}
+use native.Mathlib.Nat.{zero-add, zero-mul, suc-add, le-refl, suc-mul, not-suc-le-zero, le-of-suc-le-suc}
 use native.Mathlib.Numerals.{add-one}
 use native.Mathlib.Omega.{arith}
-use mathlib.Core.Path.{_≡_, refl, _∙_}
+use mathlib.Core.Path.{_≡_, refl}
 use mathlib.Core.Logic.{_≢_}
 use mathlib.Core.Bool.{Bool, true, false}
 use Rattle.range.specs.Below.{sumBelow, countBelow, oneIf}
@@ -37,15 +37,23 @@ sumBelow-zero (suc n) f e =
     let rest = sumBelow-zero n (λ i. f (suc i)) (λ i h. e (suc i) (suc-le-suc h)) in
     omega (arith, e zero (suc-le-suc zero-le), rest)
 
+-- two sums that differ at k alone
+pub sumBelow-but-one : (n k : ℕ) (f g : ℕ → ℕ) → k < n → ((i : ℕ) → i < n → i ≢ k → f i ≡ g i) →
+    sumBelow n f + g k ≡ sumBelow n g + f k
+unfolding sumBelow
+sumBelow-but-one zero k f g l e = absurd (not-suc-le-zero l)
+sumBelow-but-one (suc n) zero f g l e =
+    let rest = sumBelow-cong n (λ i. f (suc i)) (λ i. g (suc i)) (λ i b. e (suc i) (suc-le-suc b) (omega arith)) in
+    omega arith
+sumBelow-but-one (suc n) (suc k) f g l e =
+    let rest = sumBelow-but-one n k (λ i. f (suc i)) (λ i. g (suc i)) (le-of-suc-le-suc l)
+    (λ i b d. e (suc i) (suc-le-suc b) (omega arith)) in
+    omega (arith, e 0 (omega arith) (omega arith))
+
 -- all summands but one are zero
 pub sumBelow-only : (n k : ℕ) (f : ℕ → ℕ) → k < n → ((i : ℕ) → i < n → i ≢ k → f i ≡ 0) → sumBelow n f ≡ f k
-unfolding sumBelow
-sumBelow-only zero k f l e = absurd (not-suc-le-zero l)
-sumBelow-only (suc n) zero f l e =
-    rw (sumBelow-zero n (λ i. f (suc i)) (λ i b. e (suc i) (suc-le-suc b) (omega arith))) (add-zero (f 0))
-sumBelow-only (suc n) (suc k) f l e =
-    rw (e 0 (omega arith) (omega arith)) (zero-add _ ∙ sumBelow-only n k (λ i. f (suc i)) (omega arith)
-    (λ i b d. e (suc i) (suc-le-suc b) (omega arith)))
+sumBelow-only n k f l e =
+    omega (arith, sumBelow-but-one n k f (λ _. 0) l e, sumBelow-zero n (λ _. 0) (λ _ _. refl))
 
 pub sumBelow-sum : (n : ℕ) (f g : ℕ → ℕ) → sumBelow n f + sumBelow n g ≡ sumBelow n (λ i. f i + g i)
 unfolding sumBelow
@@ -58,6 +66,13 @@ unfolding sumBelow
 sumBelow-le zero b f h = zero-le
 sumBelow-le (suc n) b f h =
     let rest = sumBelow-le n b (λ i. f (suc i)) (λ i l. h (suc i) (suc-le-suc l)) in
+    omega (arith, h zero (suc-le-suc zero-le), rest, suc-mul n b)
+
+pub sumBelow-ge : (n b : ℕ) (f : ℕ → ℕ) → ((i : ℕ) → i < n → b ≤ f i) → n * b ≤ sumBelow n f
+unfolding sumBelow
+sumBelow-ge zero b f h = omega (arith, zero-mul b)
+sumBelow-ge (suc n) b f h =
+    let rest = sumBelow-ge n b (λ i. f (suc i)) (λ i l. h (suc i) (suc-le-suc l)) in
     omega (arith, h zero (suc-le-suc zero-le), rest, suc-mul n b)
 
 pub countBelow-suc : (n : ℕ) (f : ℕ → Bool) → countBelow (suc n) f ≡ countBelow n f + oneIf (f n)

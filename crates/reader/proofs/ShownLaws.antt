@@ -34,7 +34,7 @@ use Rattle.words.proofs.Horner.{numberOf-split, numberOf-cong}
 use Rattle.words.proofs.Forms.{length-wordOf, wordOf-at}
 use Rattle.words.proofs.Readings.{wordAt-zero, coefficient-read}
 use Rattle.words.proofs.Used.{labelPath-good}
-use Rattle.words.proofs.Inject.{wordOf-inj}
+use Rattle.distances.proofs.Inject.{wordOf-inj}
 use Rattle.reader.specs.Shown.{Word, shown, shownUpTo, lowOf, labelWith}
 
 pub shown-lt : (h m : ℕ) (w : List ℕ) (k : ℕ) → shown h m w k < phases h

@@ -60,7 +60,7 @@ lee-weight h _ = record {
   back = λ a p. shorter-back (phases h) a p;
 }
 
-differs-one : (d : ℕ) → 0 < d → differs d ≡ 1
+pub differs-one : (d : ℕ) → 0 < d → differs d ≡ 1
 differs-one d p = ap (λ t. oneIf (not t)) (ne-eqb d 0 (λ e. omega (arith, e)))
 
 differs-sum : (r s d : ℕ) → (r ≡ 0 → s ≡ 0 → d ≡ 0) → differs d ≤ differs r + differs s
@@ -109,7 +109,7 @@ sumBelow-le-sums (suc n) f g k e =
     omega (arith, e zero (suc-le-suc zero-le), rest)
 
 module _ (q : ℕ) (ω : ℕ → ℕ) (weight : Weight q ω) where
-  weight-back : (a b : ℕ) → a < q → b < q → ω (minus q a b) ≡ ω (minus q b a)
+  pub weight-back : (a b : ℕ) → a < q → b < q → ω (minus q a b) ≡ ω (minus q b a)
   weight-back a b p r = sym (ap ω (minus-back q a b p r) ∙ weight .back (minus q a b) (minus-lt q a b (omega arith)))
 
   weight-through : (a b c : ℕ) → b < q → ω (minus q a c) ≤ ω (minus q a b) + ω (minus q b c)

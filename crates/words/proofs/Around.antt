@@ -1,9 +1,9 @@
 -- What turning over one digit does to the links of a list of digits' numbers, modulo 2: rules' Word.
 -- Defines:  Turned m a x y    y is x with digit a turned over, among the digits up to m
 --           around a x p      the sum of x over the neighbours of a in p
--- In order: a digit turned over and the others; the rest of a good list; the links, with and without one digit turned
--- over, add up to what stands around it; what stands around one digit, with and without another turned over, adds up
--- to the links of the two.
+-- In order: a flip turns one digit over; a digit turned over and the others; the rest of a good list; the links, with
+-- and without one digit turned over, add up to what stands around it; what stands around one digit, with and without
+-- another turned over, adds up to the links of the two.
 -- Not here: where two functions first differ (Before), the forms at four places (FourForms).  Assumes nothing.
 use Prim.Native.Nat.{ℕ, suc, _+_, _*_, _%_, _≤_, _<_, suc-le-suc}
 use native.Mathlib.Decide.{ℕ-discrete}
@@ -15,7 +15,9 @@ use lib.Dec.{eqb}
 use lib.ListN.{length, getD}
 use borrow.Author.Tests.{eq-eqb, ne-eqb}
 use Rattle.range.specs.Below.{oneIf}
+use Rattle.rules.specs.Place.{digit}
 use Rattle.rules.specs.Word.{links}
+use Rattle.places.proofs.Flips.{flip, digit-flip-at, digit-flip-off}
 use Rattle.paths.proofs.Times.{Distinct, distinct-tail}
 use Rattle.paths.proofs.Pairs.{onPair, onPair-left, onPair-right, onPair-other, second-other}
 use Rattle.words.proofs.Readings.{Good}
@@ -23,6 +25,9 @@ use Rattle.words.proofs.Readings.{Good}
 pub record Turned (m a : ℕ) (x y : ℕ → ℕ) : Type 0 where
   pub at : x a + y a ≡ 1
   pub off : (k : ℕ) → k ≤ m → k ≢ a → y k ≡ x k
+
+pub flip-turned : (m a i : ℕ) → a ≤ m → Turned m a (digit m i) (digit m (flip m a i))
+flip-turned m a i u = record { at = digit-flip-at m a i; off = λ k l n. digit-flip-off m a k i u l n }
 
 unfoldable pub around : ℕ → (ℕ → ℕ) → List ℕ → ℕ
 around a x [] = 0

@@ -1,6 +1,6 @@
 -- The form as code computes it: rules' Word and Place. In order: the symbols are below 2^h; the form by the rows of the
 -- generator; the partner from the form, with one reduction; the words as lists.
--- Not here: what a word shows of its label (Readings, Inject).  Assumes nothing.
+-- Not here: what a word shows of its label (Readings).  Assumes nothing.
 use Prim.Native.Nat.{ℕ, _+_, _*_, _%_, _<_}
 use native.Mathlib.Nat.{mod-lt, mod-add-mod}
 use native.Mathlib.Numerals.{add-one}

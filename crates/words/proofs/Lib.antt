@@ -7,7 +7,6 @@ pub mod Forms
 pub mod Readings
 pub mod Used
 pub mod Halves
-pub mod Inject
 pub mod Partners
 pub mod Around
 pub mod Before

@@ -1,7 +1,7 @@
 -- What a word shows of its label: rules' Word. At place 0 it shows the constant, and at the place with digit k alone it
--- shows c_k more. In order: links, by the digits on the path, and where no two neighbours have digit 1; the paths in
--- question; the forms at these places; the words there; the coefficient read back.
--- Not here: that the word determines its label (Inject).  Assumes nothing.
+-- shows c_k more. In order: links where no two neighbours have digit 1; the paths in question; the forms at these
+-- places; the words there; the coefficient read back.
+-- Not here: that the word determines its label (distances' Inject).  Assumes nothing.
 use Prim.Native.Nat.{ℕ, zero, suc, _+_, _-_, _*_, _%_, _^_, _≤_, _<_, suc-le-suc}
 use native.Mathlib.Nat.{le-refl, mul-zero, zero-mul, mul-one, mod-eq-of-lt, mod-add-mod}
 use native.Mathlib.Nat.{add-mod-right}
@@ -21,15 +21,6 @@ use Rattle.rules.specs.Word.{links, formAt, wordAt}
 use Rattle.rules.specs.Pair.{minus}
 use Rattle.places.proofs.Digits.{digit-zero, digit-one-at, digit-one-off}
 use Rattle.words.proofs.Labels.{coefficient-lt, constant-lt}
-
--- links looks at x on the path alone
-pub links-cong : (x y : ℕ → ℕ) (p : List ℕ) → ((i : ℕ) → i < length p → x (getD p i 0) ≡ y (getD p i 0)) →
-    links x p ≡ links y p
-unfolding links
-links-cong x y [] e = refl
-links-cong x y (a ∷ []) e = refl
-links-cong x y (a ∷ (b ∷ p)) e =
-    rw (e 0 (omega arith), e 1 (omega arith), links-cong x y (b ∷ p) (λ i l. e (suc i) (suc-le-suc l)))
 
 pub links-zero : (x : ℕ → ℕ) (p : List ℕ) →
     ((i : ℕ) → suc i < length p → x (getD p i 0) * x (getD p (suc i) 0) ≡ 0) → links x p ≡ 0

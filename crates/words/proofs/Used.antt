@@ -16,14 +16,11 @@ use Rattle.words.proofs.Readings.{Good, good-of-different}
 pub used-lt : (m n : ℕ) → T (inM m) → n < pathsInUse m → n < length (paths m)
 used-lt m n range h = lt-of-lt-of-le h (inUse-le m range)
 
-pub used-isPath : (m n : ℕ) → T (inM m) → n < pathsInUse m → IsPath m (pathAt m n)
+used-isPath : (m n : ℕ) → T (inM m) → n < pathsInUse m → IsPath m (pathAt m n)
 used-isPath m n range h = pathAt-isPath m n (used-lt m n range h)
 
 pub isPath-good : (m : ℕ) (p : List ℕ) → IsPath m p → Good m p
 isPath-good m p s = good-of-different m p (λ i l. isPath-in m p s i l .1) (isPath-distinct m p s)
-
-pub used-good : (m n : ℕ) → T (inM m) → n < pathsInUse m → Good m (pathAt m n)
-used-good m n range h = isPath-good m (pathAt m n) (used-isPath m n range h)
 
 -- the path of a label of the shape
 pub labelPath-isPath : (h m l : ℕ) → T (inM m) → l < labels h m → IsPath m (pathAt m (labelPath h m l))

@@ -1,0 +1,99 @@
+-- The difference of two numbers modulo q, and its weight.
+-- Defines:  gap q x y       x - y modulo q, for any two numbers
+--           Positive q ω    no difference modulo q but 0 weighs nothing
+-- In order: what a gap is; a summand that both numbers share; the gap of two sums; of two multiples of half a turn;
+-- the weights of gaps.
+-- Not here: differences of numbers below q (signals' Differences), weights of words (signals' Weights), sums modulo q
+-- (words' Halves).  Assumes nothing.
+use Prim.Native.Nat.{ℕ, suc, _+_, _-_, _*_, _%_, _≤_, _<_}
+use native.Mathlib.Nat.{mul-suc, add-mod, mod-lt, mod-eq-of-lt}
+use native.Mathlib.Omega.{arith}
+use mathlib.Core.Path.{_≡_, sym, _∙_, ap, ap₂}
+use mathlib.Core.Logic.{_≢_}
+use lib.Pow.{pow-pos}
+use Rattle.rules.specs.Shape.{phases, halfTurn}
+use Rattle.rules.specs.Pair.{minus}
+use Rattle.rules.proofs.Range.{phases-half}
+use Rattle.signals.proofs.Differences.{minus-lt, eq-of-minus}
+use Rattle.signals.proofs.Weights.{Weight, weight-back}
+use Rattle.words.proofs.Halves.{mod-cancel, mod-extend, minus-add, half-of-parity}
+
+mod-sum : (q a b c d : ℕ) → a % q ≡ b % q → c % q ≡ d % q → (a + c) % q ≡ (b + d) % q
+mod-sum q a b c d e f = add-mod a c q ∙ rw (e, f) (sym (add-mod b d q))
+
+abbrev pub gap : ℕ → ℕ → ℕ → ℕ
+gap q x y = minus q (x % q) (y % q)
+
+module _ (q : ℕ) (pos : 0 < q) where
+  -- what makes x of y is the gap between them
+  gap-of-add : (d x y : ℕ) → (d + y) % q ≡ x % q → gap q x y ≡ d % q
+  gap-of-add d x y e =
+      sym (mod-eq-of-lt (minus-lt q (x % q) (y % q) pos))
+      ∙ mod-cancel q (gap q x y) d y pos (minus-add q x y pos ∙ sym e)
+
+  pub gap-shift : (x y z : ℕ) → gap q (x + z) (y + z) ≡ gap q x y
+  gap-shift x y z =
+      let e : gap q x y + (y + z) ≡ gap q x y + y + z = omega arith in
+      gap-of-add (gap q x y) (x + z) (y + z)
+      (ap (λ (n : ℕ). n % q) e ∙ mod-extend q (gap q x y + y) x z (minus-add q x y pos))
+      ∙ mod-eq-of-lt (minus-lt q (x % q) (y % q) pos)
+
+  gap-sum : (x y u v : ℕ) → gap q (x + u) (y + v) ≡ (gap q x y + gap q u v) % q
+  gap-sum x y u v =
+      let e : gap q x y + gap q u v + (y + v) ≡ gap q x y + y + (gap q u v + v) = omega arith in
+      gap-of-add (gap q x y + gap q u v) (x + u) (y + v)
+      (ap (λ (n : ℕ). n % q) e
+      ∙ mod-sum q (gap q x y + y) x (gap q u v + v) u (minus-add q x y pos) (minus-add q u v pos))
+
+-- multiples of half a turn by factors of different parity lie half a turn apart
+pub gap-half : (h x y : ℕ) → 1 ≤ h → x % 2 ≢ y % 2 → gap (phases h) (halfTurn h * x) (halfTurn h * y) ≡ halfTurn h
+gap-half h x y b n =
+    let e : halfTurn h + halfTurn h * y ≡ halfTurn h * suc y = omega (arith, mul-suc (halfTurn h) y) in
+    gap-of-add (phases h) (pow-pos h) (halfTurn h) (halfTurn h * x) (halfTurn h * y)
+    (ap (λ (n : ℕ). n % phases h) e ∙ half-of-parity h (suc y) x b (omega arith))
+    ∙ mod-eq-of-lt (omega (arith, phases-half h b, pow-pos (h - 1)))
+
+abbrev pub Positive : ℕ → (ℕ → ℕ) → Type 0
+Positive q ω = (d : ℕ) → 0 < d → d < q → 1 ≤ ω d
+
+module _ (q : ℕ) (pos : 0 < q) (ω : ℕ → ℕ) (weight : Weight q ω) where
+  weight-gap-back : (x y : ℕ) → ω (gap q x y) ≡ ω (gap q y x)
+  weight-gap-back x y = weight-back q ω weight (x % q) (y % q) (mod-lt x pos) (mod-lt y pos)
+
+  pub weight-gap-sum : (x y u v : ℕ) → ω (gap q (x + u) (y + v)) ≤ ω (gap q x y) + ω (gap q u v)
+  weight-gap-sum x y u v =
+      rw (gap-sum q pos x y u v)
+      (rw (mod-eq-of-lt (minus-lt q (x % q) (y % q) pos), mod-eq-of-lt (minus-lt q (u % q) (v % q) pos))
+      at (weight .sum (gap q x y) (gap q u v)))
+
+  -- where x + u is s and y + v is t, u and v are no further apart than x and y with s and t
+  pub weight-step : (x y s t u v : ℕ) → (x + u) % q ≡ s % q → (y + v) % q ≡ t % q →
+      ω (gap q u v) ≤ ω (gap q x y) + ω (gap q s t)
+  weight-step x y s t u v e f =
+      let a : u + (x + y) ≡ x + u + y = omega arith in
+      let b : v + (x + y) ≡ y + v + x = omega arith in
+      omega (
+        arith,
+        ap ω (gap-shift q pos u v (x + y)),
+        ap₂ (λ (i j : ℕ). ω (gap q i j)) a b,
+        ap₂ (λ (i j : ℕ). ω (minus q i j)) (mod-extend q (x + u) s y e) (mod-extend q (y + v) t x f),
+        weight-gap-sum s t y x,
+        weight-gap-back x y,
+      )
+
+  -- the same with a summand beside x and y, and one beside s and t
+  pub weight-step-beside : (x y s t w z u v : ℕ) → x + w + u ≡ s + z → y + w + v ≡ t + z →
+      ω (gap q u v) ≤ ω (gap q x y) + ω (gap q s t)
+  weight-step-beside x y s t w z u v e f =
+      omega (
+        arith,
+        weight-step (x + w) (y + w) (s + z) (t + z) u v (ap (λ (n : ℕ). n % q) e) (ap (λ (n : ℕ). n % q) f),
+        ap ω (gap-shift q pos x y w),
+        ap ω (gap-shift q pos s t z),
+      )
+
+  pub weight-gap-one : Positive q ω → (u v : ℕ) → u < q → v < q → u ≢ v → 1 ≤ ω (gap q u v)
+  weight-gap-one one u v a b n =
+      let e : gap q u v ≡ minus q u v = rw (mod-eq-of-lt a, mod-eq-of-lt b) in
+      let z : gap q u v ≢ 0 = λ f. n (eq-of-minus q u v a b (sym e ∙ f)) in
+      one (gap q u v) (omega arith) (minus-lt q (u % q) (v % q) pos)
