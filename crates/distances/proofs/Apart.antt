@@ -14,11 +14,12 @@ use Rattle.rules.specs.Shape.{phases, halfTurn, carriers, inM}
 use Rattle.rules.specs.Path.{pathAt}
 use Rattle.rules.specs.Label.{labels, labelPath, coefficient, constant}
 use Rattle.rules.specs.Word.{wordAt}
-use Rattle.rules.specs.Distance.{hamming, leeOf, lee}
+use Rattle.rules.specs.Distance.{hamming, leeOf, lee, distance}
 use Rattle.rules.proofs.Range.{phases-half, inM-least}
 use Rattle.places.proofs.Twins.{carriers-blocks}
 use Rattle.paths.proofs.Links.{path-of-links}
 use Rattle.paths.proofs.Increasing.{pathAt-inj}
+use Rattle.signals.proofs.Distances.{distance-lee}
 use Rattle.signals.proofs.Weights.{Weight, weigh, differs, differs-one, differs-weight, hamming-weigh}
 use Rattle.signals.proofs.Weights.{lee-weight, lee-weigh}
 use Rattle.words.proofs.Labels.{label-inj, labelPath-lt}
@@ -113,4 +114,18 @@ lee-apart h m l k u range ll lk n =
       weigh-apart h m l k 2 (leeOf h) (lee-weight h pos) (leeOf-positive h) pos range ll lk n (le-refl 2)
           (leeOf-half h u),
       carriers-blocks m 1 (omega (arith, inM-least m range)),
+    )
+
+-- so 01's distance between them is not 0, whatever h is
+pub distance-apart : (h m l k : ℕ) → 1 ≤ h → T (inM m) → l < labels h m → k < labels h m → l ≢ k →
+    1 ≤ distance h (carriers m) (wordAt h m l) (wordAt h m k)
+distance-apart h m l k pos range ll lk n =
+    let half : 1 ≤ leeOf h (halfTurn h) =
+    leeOf-positive h (halfTurn h) (pow-pos (h - 1)) (omega (arith, phases-half h pos, pow-pos (h - 1))) in
+    omega (
+      arith,
+      pow-pos m,
+      distance-lee h (carriers m) _ _ (λ i _. wordAt-lt h m l i) (λ i _. wordAt-lt h m k i),
+      lee-weigh h (carriers m) (wordAt h m l) (wordAt h m k),
+      weigh-apart h m l k 1 (leeOf h) (lee-weight h pos) (leeOf-positive h) pos range ll lk n (omega arith) half,
     )

@@ -1,12 +1,16 @@
--- Only one outcome keeps the promise of each call that writes to no slice or area: from the law of its answer, since the
--- contents afterwards are those before. In order: one slice; two; the calls.
--- Not here: encode, partner, `run` and the transform, whose own laws speak of what they write.  Assumes nothing.
+-- Only one outcome, answer and slices, keeps the promise of each call. In order: an answer that is determined, beside one
+-- slice that stays, and beside two; the calls that only read; encode and partner; `run`.
+-- Not here: the laws of the answers (each call's own crate), the transform (its crate, Unique and RemainsLaws).
+-- Assumes nothing.
 use Prim.Native.Nat.{ℕ}
 use mathlib.Core.Path.{_≡_, sym, _∙_}
 use mathlib.Core.List.{List}
 use lib.IntN.{ℤ}
 use lib.ListN.{length}
 use Rattle.rules.specs.Refusal.{pairOutcome, readOutcome, transformRefusal}
+use Rattle.encoder.specs.declared.Written.{Written}
+use Rattle.encoder.specs.Sent.{Sent}
+use Rattle.encoder.proofs.SentLaws.{sent-unique}
 use Rattle.pair.specs.declared.Paired.{Paired}
 use Rattle.pair.specs.Told.{pairedTold}
 use Rattle.pair.proofs.Told.{paired-unique}
@@ -14,8 +18,8 @@ use Rattle.reader.specs.declared.Reading.{Reading}
 use Rattle.reader.specs.Told.{readingTold}
 use Rattle.reader.proofs.Outcomes.{reading-unique}
 use Rattle.transform.specs.declared.Judged.{Judged}
-use Rattle.transform.specs.Told.{judgedTold}
-use Rattle.transform.proofs.Unique.{judged-unique}
+use Rattle.transform.specs.Told.{judgedTold, Ran}
+use Rattle.transform.proofs.Unique.{judged-unique, ran-unique}
 use Rattle.decoder.specs.declared.Heard.{Heard}
 use Rattle.decoder.specs.declared.Matched.{Matched}
 use Rattle.decoder.specs.Told.{Hears, Matches}
@@ -53,3 +57,13 @@ pub refusal-one : (m : ℕ) (a b : List ℤ) → OneOutcome (λ (o : Judged × L
     (judgedTold (o .0) ≡ transformRefusal m a (length b)) × (o .1 ≡ a) × (o .2 ≡ b))
 refusal-one m a b =
     one-kept-both a b (λ (r : Judged). judgedTold r ≡ transformRefusal m a (length b)) (judged-unique m a (length b))
+
+pub sent-one : (h m g : ℕ) (word d : List ℕ) → OneOutcome (λ (o : Written × List ℕ). Sent h m g word d (o .0) (o .1))
+sent-one h m g word d o p s t =
+    let e = sent-unique h m g word d (o .0) (p .0) (o .1) (p .1) s t in
+    λ i. (e .0 i, e .1 i)
+
+pub run-one : (m : ℕ) (a b : List ℤ) → OneOutcome (λ (o : ℕ × List ℤ × List ℤ). Ran m a b (o .0) (o .1) (o .2))
+run-one m a b o p s t =
+    let e = ran-unique s t in
+    λ i. (e .0 i, e .1 i, e .2 i)

@@ -1,18 +1,18 @@
 -- Every theorem of the index (specs/Theorems.antt) holds.  Assumes nothing.
-use mathlib.Core.Path.{_≡_}
+use Rattle.rules.specs.Label.{labelOf}
+use Rattle.rules.specs.Word.{wordOf, partnerOf}
 use Rattle.rules.proofs.Range.{inShape-range, range-inM}
 use Rattle.words.proofs.Labels.{labelOf-lt, labelOf-inj}
 use Rattle.words.proofs.Partners.{partnerOf-not-wordOf}
 use Rattle.golay.proofs.Autocorrelations.{cancel-iff-counts}
 use Rattle.distances.proofs.Apart.{hamming-apart, lee-apart}
-use Rattle.encoder.proofs.SentLaws.{sent-unique}
-use Rattle.transform.proofs.Unique.{ran-unique, handed-unique}
+use Rattle.transform.proofs.Unique.{handed-unique}
 use Rattle.decoder.proofs.Outcomes.{hears-found, matches-found}
 use Rattle.theorems.specs.Theorems.{Theorems}
 use Rattle.theorems.proofs.Pairs.{word-partner, partner-cancels, written-pair, self-no-pair, self-not-yes}
 use Rattle.theorems.proofs.Pairs.{power-together, yes-cancels, no-cancels-not}
 use Rattle.theorems.proofs.Decoding.{damage-two, damage-four, read-back, hard-back, soft-back}
-use Rattle.theorems.proofs.Ones.{check-one, read-one, soft-one, hard-one, refusal-one}
+use Rattle.theorems.proofs.Ones.{sent-one, check-one, read-one, soft-one, hard-one, refusal-one, run-one}
 
 pub theorems : Theorems
 theorems = record {
@@ -25,4 +25,30 @@ theorems = record {
   power-together = power-together;
   yes-cancels = yes-cancels;
   no-cancels-not = no-cancels-not;
+  places-apart = λ h m g k shape p q n.
+      let r = inShape-range h m shape in
+      hamming-apart h m (labelOf h m g) (labelOf h m k) (r .h-least) (range-inM h m r) (labelOf-lt h m g p)
+      (labelOf-lt h m k q) (λ e. n (labelOf-inj h m g k e));
+  lee-apart = λ h m g k shape two p q n.
+      lee-apart h m (labelOf h m g) (labelOf h m k) two (range-inM h m (inShape-range h m shape)) (labelOf-lt h m g p)
+      (labelOf-lt h m k q) (λ e. n (labelOf-inj h m g k e));
+  damage-two = damage-two;
+  damage-four = damage-four;
+  read-back = read-back;
+  hard-back = hard-back;
+  soft-back = soft-back;
+  encode-one = λ h m g d o p. sent-one h m g (wordOf h m g) d o p;
+  partner-one = λ h m g d o p. sent-one h m g (partnerOf h m g) d o p;
+  check-one = check-one;
+  read-one = read-one;
+  soft-one = soft-one;
+  hard-one = hard-one;
+  refusal-one = refusal-one;
+  run-one = run-one;
+  transform-one = λ m x y r s. handed-unique;
+  soft-answers = λ h m ys t e hears. hears-found h m ys t hears e;
+  hard-answers = λ h m w t e matches. matches-found h m w t matches e;
+  partner-other = λ h m g shape.
+      let r = inShape-range h m shape in
+      partnerOf-not-wordOf h m g (r .h-least) (range-inM h m r);
 }
