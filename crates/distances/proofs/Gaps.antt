@@ -1,47 +1,39 @@
 -- The difference of two numbers modulo q, and its weight.
 -- Defines:  gap q x y       x - y modulo q, for any two numbers
 --           Positive q ω    no difference modulo q but 0 weighs nothing
--- In order: what a gap is; a summand that both numbers share; the gap of two sums; of two multiples of half a turn;
+-- In order: a summand that both numbers share; the gap of two sums; of two multiples of half a turn;
 -- the weights of gaps.
--- Not here: differences of numbers below q (signals' Differences), weights of words (signals' Weights), sums modulo q
--- (words' Halves).  Assumes nothing.
+-- Not here: differences (rules' Differences), weights of words (signals' Weights), sums modulo q (range's Remainders).
+-- Assumes nothing.
 use Prim.Native.Nat.{ℕ, suc, _+_, _-_, _*_, _%_, _≤_, _<_}
-use native.Mathlib.Nat.{mul-suc, add-mod, mod-lt, mod-eq-of-lt}
+use native.Mathlib.Nat.{mul-suc, mod-lt, mod-eq-of-lt}
 use native.Mathlib.Omega.{arith}
 use mathlib.Core.Path.{_≡_, sym, _∙_, ap, ap₂}
 use mathlib.Core.Logic.{_≢_}
 use lib.Pow.{pow-pos}
+use Rattle.range.proofs.Remainders.{mod-extend, mod-sum}
 use Rattle.rules.specs.Shape.{phases, halfTurn}
 use Rattle.rules.specs.Pair.{minus}
 use Rattle.rules.proofs.Range.{phases-half}
-use Rattle.signals.proofs.Differences.{minus-lt, eq-of-minus}
+use Rattle.rules.proofs.Differences.{minus-lt, eq-of-minus, minus-add, minus-of-sum}
 use Rattle.signals.proofs.Weights.{Weight, weight-back}
-use Rattle.words.proofs.Halves.{mod-cancel, mod-extend, minus-add, half-of-parity}
-
-mod-sum : (q a b c d : ℕ) → a % q ≡ b % q → c % q ≡ d % q → (a + c) % q ≡ (b + d) % q
-mod-sum q a b c d e f = add-mod a c q ∙ rw (e, f) (sym (add-mod b d q))
+use Rattle.words.proofs.Halves.{half-of-parity}
 
 abbrev pub gap : ℕ → ℕ → ℕ → ℕ
 gap q x y = minus q (x % q) (y % q)
 
 module _ (q : ℕ) (pos : 0 < q) where
-  -- what makes x of y is the gap between them
-  gap-of-add : (d x y : ℕ) → (d + y) % q ≡ x % q → gap q x y ≡ d % q
-  gap-of-add d x y e =
-      sym (mod-eq-of-lt (minus-lt q (x % q) (y % q) pos))
-      ∙ mod-cancel q (gap q x y) d y pos (minus-add q x y pos ∙ sym e)
-
   pub gap-shift : (x y z : ℕ) → gap q (x + z) (y + z) ≡ gap q x y
   gap-shift x y z =
       let e : gap q x y + (y + z) ≡ gap q x y + y + z = omega arith in
-      gap-of-add (gap q x y) (x + z) (y + z)
+      minus-of-sum q (gap q x y) (x + z) (y + z) pos
       (ap (λ (n : ℕ). n % q) e ∙ mod-extend q (gap q x y + y) x z (minus-add q x y pos))
       ∙ mod-eq-of-lt (minus-lt q (x % q) (y % q) pos)
 
   gap-sum : (x y u v : ℕ) → gap q (x + u) (y + v) ≡ (gap q x y + gap q u v) % q
   gap-sum x y u v =
       let e : gap q x y + gap q u v + (y + v) ≡ gap q x y + y + (gap q u v + v) = omega arith in
-      gap-of-add (gap q x y + gap q u v) (x + u) (y + v)
+      minus-of-sum q (gap q x y + gap q u v) (x + u) (y + v) pos
       (ap (λ (n : ℕ). n % q) e
       ∙ mod-sum q (gap q x y + y) x (gap q u v + v) u (minus-add q x y pos) (minus-add q u v pos))
 
@@ -49,7 +41,7 @@ module _ (q : ℕ) (pos : 0 < q) where
 pub gap-half : (h x y : ℕ) → 1 ≤ h → x % 2 ≢ y % 2 → gap (phases h) (halfTurn h * x) (halfTurn h * y) ≡ halfTurn h
 gap-half h x y b n =
     let e : halfTurn h + halfTurn h * y ≡ halfTurn h * suc y = omega (arith, mul-suc (halfTurn h) y) in
-    gap-of-add (phases h) (pow-pos h) (halfTurn h) (halfTurn h * x) (halfTurn h * y)
+    minus-of-sum (phases h) (halfTurn h) (halfTurn h * x) (halfTurn h * y) (pow-pos h)
     (ap (λ (n : ℕ). n % phases h) e ∙ half-of-parity h (suc y) x b (omega arith))
     ∙ mod-eq-of-lt (omega (arith, phases-half h b, pow-pos (h - 1)))
 

@@ -1,7 +1,7 @@
 -- Laws of the promise of encode and partner.
--- In order: the outcome, refusal by refusal, and back; the promise of a refusal and of a word written; a word said in another
--- way; only one outcome satisfies it; the slice where nothing is refused, and
--- where something is.  Assumes nothing.
+-- In order: the outcome, refusal by refusal, and back; the promise of a refusal and of a word written; a word said in
+-- another way; only one outcome satisfies it; the slice where nothing is refused, and where something is.  Assumes
+-- nothing.
 use Prim.Native.Nat.{ℕ, _<_}
 use mathlib.Core.Path.{_≡_, refl, sym, _∙_, ap, subst}
 use mathlib.Core.Bool.{true, false}

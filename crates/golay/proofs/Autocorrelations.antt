@@ -1,33 +1,27 @@
 -- What the counts of the pair check say of autocorrelations: the two words of a Golay pair are those whose
 -- autocorrelations cancel.
--- In order: differences of natural numbers as whole numbers; an autocorrelation as two counts, and the two of a pair
--- together; they cancel where the counts agree half a turn on, at one coordinate, at one shift and at all; shift 0.
+-- In order: a difference that is 0; an autocorrelation as two counts, and the two of a pair together; they cancel where
+-- the counts agree half a turn on, at one coordinate, at one shift and at all; shift 0.
 -- Not here: the powers that are summed (Powers).  Assumes nothing.
 use Prim.Native.Nat.{ℕ, _+_, _-_, _*_, _%_, _≤_, _<_}
-use native.Mathlib.Nat.{mod-lt, mod-eq-of-lt, mod-self, add-mod-right, add-zero, sub-zero}
+use native.Mathlib.Nat.{add-mod-right, add-zero, sub-zero}
 use native.Mathlib.Decide.{decLt}
 use native.Mathlib.Omega.{arith}
 use mathlib.Core.Path.{_≡_, refl, sym, _∙_, ap}
 use mathlib.Core.Logic.{_↔_}
 use lib.Dec.{eqb}
-use lib.IntN.{pos, negℤ, natAbs, _+ℤ_, _-ℤ_, +ℤ-idr, +ℤ-invr, negℤ-+ℤ, -ℤ-+ℤ-cancel}
+use lib.IntN.{pos, natAbs, _+ℤ_, _-ℤ_, +ℤ-idr, +ℤ-invr, -ℤ-+ℤ-cancel}
 use lib.Pow.{pow-pos}
-use Rattle.range.specs.Below.{sumBelow, countBelow, oneIf}
-use Rattle.range.specs.Signed.{sumℤ}
+use Rattle.range.specs.Below.{countBelow, oneIf}
 use Rattle.range.proofs.Sums.{sumBelow-zero}
-use Rattle.range.proofs.SumsSigned.{+ℤ-swap, sumℤ-cong, sumℤ-add, sumℤ-neg}
-use Rattle.range.proofs.Shifts.{sumℤ-pos, sumℤ-less}
+use Rattle.range.proofs.SumsSigned.{sumℤ-cong}
+use Rattle.range.proofs.Shifts.{differences-add, sumℤ-difference, sumℤ-less}
 use Rattle.rules.specs.Shape.{phases, halfTurn, carriers}
 use Rattle.rules.specs.Pair.{minus, phaseCount, pairCount, GolayPair}
 use Rattle.rules.specs.Autocorrelation.{phasePower, autocorrelation, Cancel}
 use Rattle.rules.proofs.Range.{phases-half}
-use Rattle.golay.proofs.Powers.{phasePower-zero, phasePower-is}
-
-sumℤ-difference : (n : ℕ) (f g : ℕ → ℕ) →
-    sumℤ n (λ i. pos (f i) -ℤ pos (g i)) ≡ pos (sumBelow n f) -ℤ pos (sumBelow n g)
-sumℤ-difference n f g =
-    sym (sumℤ-add n (λ i. pos (f i)) (λ i. negℤ (pos (g i))))
-    ∙ rw (sumℤ-pos n f, ← sumℤ-neg n (λ i. pos (g i)), sumℤ-pos n g)
+use Rattle.rules.proofs.Differences.{minus-lt, minus-self}
+use Rattle.golay.proofs.Powers.{phasePower-zero, phasePower-tests}
 
 difference-zero : (p q : ℕ) → (pos p -ℤ pos q ≡ pos 0) ↔ (p ≡ q)
 difference-zero p q = (
@@ -35,22 +29,16 @@ difference-zero p q = (
   λ e. rw e (+ℤ-invr (pos q)),
 )
 
-minus-lt : (h x y : ℕ) → minus (phases h) x y < phases h
-unfolding minus
-minus-lt h x y = mod-lt (x + (phases h - y)) (pow-pos h)
-
 pub autocorrelation-counts : (h n : ℕ) (a : ℕ → ℕ) (u t : ℕ) → 1 ≤ h → t < halfTurn h →
     autocorrelation h n a u t ≡ pos (phaseCount h n a u t) -ℤ pos (phaseCount h n a u (t + halfTurn h))
 unfolding autocorrelation phaseCount countBelow
 autocorrelation-counts h n a u t one b =
     let d : ℕ → ℕ = λ i. minus (phases h) (a i) (a (i + u)) in
-    let p : t % phases h ≡ t = mod-eq-of-lt (omega (arith, phases-half h one)) in
-    let q : (t + halfTurn h) % phases h ≡ t + halfTurn h = mod-eq-of-lt (omega (arith, phases-half h one)) in
-    rw (p, q)
-    (sumℤ-cong (n - u) (λ i. phasePower h (d i) t)
-    (λ i. pos (oneIf (eqb (d i) t)) -ℤ pos (oneIf (eqb (d i) (t + halfTurn h))))
-    (λ i _. phasePower-is h (d i) t one (minus-lt h (a i) (a (i + u))) b)
-    ∙ sumℤ-difference (n - u) (λ i. oneIf (eqb (d i) t)) (λ i. oneIf (eqb (d i) (t + halfTurn h))))
+    let f : ℕ → ℕ = λ i. oneIf (eqb (d i) (t % phases h)) in
+    let g : ℕ → ℕ = λ i. oneIf (eqb (d i) ((t + halfTurn h) % phases h)) in
+    sumℤ-cong (n - u) (λ i. phasePower h (d i) t) (λ i. pos (f i) -ℤ pos (g i))
+    (λ i _. phasePower-tests h (d i) t one (minus-lt (phases h) (a i) (a (i + u)) (pow-pos h)) b)
+    ∙ sumℤ-difference (n - u) f g
 
 -- counts are for phases modulo 2^h
 pairCount-turn : (h n : ℕ) (a b : ℕ → ℕ) (u k : ℕ) → pairCount h n a b u (k + phases h) ≡ pairCount h n a b u k
@@ -58,18 +46,14 @@ unfolding pairCount phaseCount
 pairCount-turn h n a b u k = rw (add-mod-right k (phases h))
 
 module _ (h n : ℕ) (a b : ℕ → ℕ) (u : ℕ) (one : 1 ≤ h) where
-  autocorrelations-pairCount : (t : ℕ) → t < halfTurn h →
+  pub autocorrelations-pairCount : (t : ℕ) → t < halfTurn h →
       autocorrelation h n a u t +ℤ autocorrelation h n b u t ≡
       pos (pairCount h n a b u t) -ℤ pos (pairCount h n a b u (t + halfTurn h))
   unfolding pairCount
   autocorrelations-pairCount t l =
-      let p : ℕ = phaseCount h n a u t in
-      let q : ℕ = phaseCount h n a u (t + halfTurn h) in
-      let r : ℕ = phaseCount h n b u t in
-      let s : ℕ = phaseCount h n b u (t + halfTurn h) in
       rw (autocorrelation-counts h n a u t one l, autocorrelation-counts h n b u t one l)
-      (+ℤ-swap (pos p) (negℤ (pos q)) (pos r) (negℤ (pos s))
-      ∙ ap (λ z. pos (p + r) +ℤ z) (sym (negℤ-+ℤ (pos q) (pos s))))
+      (differences-add (phaseCount h n a u t) (phaseCount h n a u (t + halfTurn h)) (phaseCount h n b u t)
+      (phaseCount h n b u (t + halfTurn h)))
 
   cancel-iff-counts-at : (t : ℕ) → t < halfTurn h →
       (autocorrelation h n a u t +ℤ autocorrelation h n b u t ≡ pos 0) ↔
@@ -105,10 +89,6 @@ golayPair-iff-cancel h m a b one = (
   λ g u p q. cancel-iff-counts h (carriers m) a b u one .1 (g u p q),
   λ c u p q. cancel-iff-counts h (carriers m) a b u one .0 (c u p q),
 )
-
-minus-self : (q x : ℕ) → x < q → minus q x x ≡ 0
-unfolding minus
-minus-self q x b = let e : x + (q - x) ≡ q = omega arith in rw e (mod-self q)
 
 -- at shift 0 it is n: n at coordinate 0, and 0 at the others
 pub autocorrelation-whole : (h n : ℕ) (a : ℕ → ℕ) (t : ℕ) → 1 ≤ h → ((i : ℕ) → i < n → a i < phases h) →

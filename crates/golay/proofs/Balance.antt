@@ -18,7 +18,7 @@ use Rattle.rules.specs.Pair.{minus}
 use Rattle.places.proofs.Flips.{flip, digit-flip-at, digit-flip-off}
 use Rattle.words.proofs.Forms.{partnerAt-form}
 use Rattle.words.proofs.Readings.{Good}
-use Rattle.words.proofs.Around.{Turned, around, links-turned}
+use Rattle.words.proofs.Around.{flip-turned, around, links-turned}
 use Rattle.words.proofs.FourForms.{formAt-four}
 use Rattle.golay.proofs.Residues.{minus-of-sums, sums-moved}
 use Rattle.golay.proofs.Mates.{OddAround}
@@ -30,9 +30,6 @@ digits-balance m a i j k la lk s = at (ℕ-discrete k a)
     at : Dec (k ≡ a) → digit m i k + digit m (flip m a j) k ≡ digit m (flip m a i) k + digit m j k
     at (yes e) = rw e (omega (arith, s, digit-flip-at m a i, digit-flip-at m a j))
     at (no n) = rw (digit-flip-off m a k i la lk n, digit-flip-off m a k j la lk n)
-
-flip-turned : (m a i : ℕ) → a ≤ m → Turned m a (digit m i) (digit m (flip m a i))
-flip-turned m a i la = record { at = digit-flip-at m a i; off = λ k l n. digit-flip-off m a k i la l n }
 
 odd-sum : (v w c d : ℕ) → v % 2 ≡ c % 2 → w % 2 ≡ d % 2 → (c + d) % 2 ≡ 1 → (v + w) % 2 ≡ 1
 odd-sum v w c d e g o = add-mod v w 2 ∙ rw (e, g) (sym (add-mod c d 2) ∙ o)

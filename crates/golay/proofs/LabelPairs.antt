@@ -24,7 +24,7 @@ use Rattle.words.proofs.Forms.{partnerAt-form}
 use Rattle.words.proofs.Readings.{Good}
 use Rattle.words.proofs.Used.{isPath-good, labelPath-isPath}
 use Rattle.golay.proofs.Residues.{minus-half-once}
-use Rattle.golay.proofs.Turning.{Turning, Cancel, apart, across, pairCount-half-of-turning}
+use Rattle.golay.proofs.Turning.{Turning, CancelAt, apart, across, pairCount-half-of-turning}
 use Rattle.golay.proofs.Mates.{mate, pivot, OddAround, first-le, pivot-in, pivot-same, pivot-odd, flip-on}
 use Rattle.golay.proofs.Mates.{mate-self, mate-flip, mate-fits, mate-mate}
 use Rattle.golay.proofs.Balance.{word-turned, partner-turned}
@@ -42,11 +42,11 @@ partner-across h m l u i one n =
 
 module _ (h m l f : ℕ) (p : List ℕ) (one : 1 ≤ h) (is : pathAt m (labelPath h m l) ≡ f ∷ p) (path : IsPath m (f ∷ p))
     (u i : ℕ) (pos : 1 ≤ u) (fits : i < carriers m - u) where
-  cancel-differ : digit m i f ≢ digit m (i + u) f → Cancel h (wordAt h m l) (partnerAt h m l) u i i
+  cancel-differ : digit m i f ≢ digit m (i + u) f → CancelAt h (wordAt h m l) (partnerAt h m l) u i i
   cancel-differ n = inl (refl, partner-across h m l u i one (rw is n))
 
   cancel-agree : digit m i f ≡ digit m (i + u) f →
-      Cancel h (wordAt h m l) (partnerAt h m l) u i (flip m (pivot m f p u i) i)
+      CancelAt h (wordAt h m l) (partnerAt h m l) u i (flip m (pivot m f p u i) i)
   cancel-agree s =
       let le : pivot m f p u i ≤ m = pivot-in m f p path u i .1 in
       let same : digit m i (pivot m f p u i) ≡ digit m (i + u) (pivot m f p u i) = pivot-same m f p path u i s in
@@ -58,7 +58,7 @@ module _ (h m l f : ℕ) (p : List ℕ) (one : 1 ≤ h) (is : pathAt m (labelPat
         partner-turned h m l (pivot m f p u i) i (i + u) one le same good odd (rw is (first-le m f p path)),
       ))
 
-  cancel-mate : Cancel h (wordAt h m l) (partnerAt h m l) u i (mate m (f ∷ p) u i)
+  cancel-mate : CancelAt h (wordAt h m l) (partnerAt h m l) u i (mate m (f ∷ p) u i)
   cancel-mate = elim (ℕ-discrete (digit m i f) (digit m (i + u) f)) [
     | yes s ↦ rw (mate-flip m f p u i s) (cancel-agree s)
     | no n ↦ rw (mate-self m f p u i n) (cancel-differ n)

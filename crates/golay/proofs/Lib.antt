@@ -1,4 +1,5 @@
--- Laws of Golay pairs: a word and its partner are one, and pairs are words whose autocorrelations cancel.
+-- Laws of Golay pairs: a word and its partner are one, pairs are words whose autocorrelations cancel, and at every
+-- moment the envelope powers of a pair add up to 2 N.
 pub mod Powers
 pub mod Autocorrelations
 pub mod Residues
@@ -6,3 +7,6 @@ pub mod Turning
 pub mod Mates
 pub mod Balance
 pub mod LabelPairs
+pub mod HalfMaps
+pub mod Moments
+pub mod Envelopes

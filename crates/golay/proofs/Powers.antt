@@ -1,9 +1,9 @@
 -- Laws of phasePower: the powers of x modulo x^(2^(h-1)) + 1, told by their coordinates.
 -- In order: turning carries a coordinate on, and the last one back negated; half a turn more negates, and a whole turn
--- more changes nothing; x^0, x^e below half a turn, and x^e below a whole turn.
+-- more changes nothing; x^0, x^e below half a turn, and x^e below a whole turn, by tests for a phase.
 -- Not here: sums of powers (Autocorrelations).  Assumes nothing.
-use Prim.Native.Nat.{ℕ, zero, suc, _+_, _-_, _≤_, _<_}
-use native.Mathlib.Nat.{zero-add, add-zero, add-suc}
+use Prim.Native.Nat.{ℕ, zero, suc, _+_, _-_, _%_, _≤_, _<_}
+use native.Mathlib.Nat.{zero-add, add-zero, add-suc, mod-eq-of-lt}
 use native.Mathlib.Decide.{decLt}
 use native.Mathlib.Omega.{arith}
 use mathlib.Core.Path.{_≡_, refl, sym, _∙_}
@@ -70,7 +70,7 @@ phasePower-above h e t one a p q =
     cc (phasePower-half h d t q, phasePower-below h d t l q, eqb-add d t (halfTurn h))
 
 -- x^e has one coordinate: 1 at e below half a turn, -1 at e less half a turn from there on
-pub phasePower-is : (h e t : ℕ) → 1 ≤ h → e < phases h → t < halfTurn h →
+phasePower-is : (h e t : ℕ) → 1 ≤ h → e < phases h → t < halfTurn h →
     phasePower h e t ≡ pos (oneIf (eqb e t)) -ℤ pos (oneIf (eqb e (t + halfTurn h)))
 phasePower-is h e t one p q = at (decLt e (halfTurn h))
   where
@@ -81,3 +81,11 @@ phasePower-is h e t one p q = at (decLt e (halfTurn h))
     at (no l) =
         rw (ne-eqb e t (λ x. omega arith), phasePower-above h e t one (omega arith) p q)
         (sym (+ℤ-idl (negℤ (pos (oneIf (eqb e (t + halfTurn h)))))))
+
+-- the same, by tests for a phase modulo 2^h
+pub phasePower-tests : (h e t : ℕ) → 1 ≤ h → e < phases h → t < halfTurn h →
+    phasePower h e t ≡ pos (oneIf (eqb e (t % phases h))) -ℤ pos (oneIf (eqb e ((t + halfTurn h) % phases h)))
+phasePower-tests h e t one p q =
+    let low : t % phases h ≡ t = mod-eq-of-lt (omega (arith, phases-half h one)) in
+    let high : (t + halfTurn h) % phases h ≡ t + halfTurn h = mod-eq-of-lt (omega (arith, phases-half h one)) in
+    rw (low, high) (phasePower-is h e t one p q)

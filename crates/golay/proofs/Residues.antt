@@ -1,21 +1,19 @@
 -- Remainders, half a turn and differences, over plain numbers: q is a whole turn, s half of it. In order: two half
--- turns are none; half a turn changes sides in a test; a difference by sums; half a turn at one of two places; the same
--- multiples of it on both sides of a sum.
--- Not here: that half a turn moves every symbol (rules' Turns), sums with an equal summand (words' Halves).
+-- turns are none; half a turn changes sides in a test; a difference by two sums; half a turn at one of two
+-- places; the same multiples of it on both sides of a sum.
+-- Not here: that half a turn moves every symbol (rules' Turns), sums modulo q (range's Remainders), differences (rules'
+-- Differences).
 -- Assumes nothing.
-use Prim.Native.Nat.{ℕ, zero, suc, _+_, _-_, _*_, _%_, _<_}
-use native.Mathlib.Nat.{mod-lt, mod-eq-of-lt, mod-mod, mod-add-mod, add-mod-mod, add-mod-right}
+use Prim.Native.Nat.{ℕ, zero, suc, _+_, _*_, _%_, _<_}
+use native.Mathlib.Nat.{mod-eq-of-lt, mod-add-mod, add-mod-right}
 use native.Mathlib.Decide.{ℕ-discrete}
 use native.Mathlib.Omega.{arith}
 use mathlib.Core.Path.{_≡_, sym, _∙_, ap}
 use lib.Dec.{eqb}
 use borrow.Author.Tests.{eq-eqb, ne-eqb}
+use Rattle.range.proofs.Remainders.{mod-cancel, mod-extend}
 use Rattle.rules.specs.Pair.{minus}
-use Rattle.words.proofs.Halves.{mod-cancel, mod-extend}
-
-pub minus-lt : (q a b : ℕ) → 0 < q → minus q a b < q
-unfolding minus
-minus-lt q a b p = mod-lt (a + (q - b)) p
+use Rattle.rules.proofs.Differences.{minus-lt, minus-add}
 
 -- two tests that pass together are one test
 eqb-of-iff : (a b c d : ℕ) → (a ≡ b → c ≡ d) → (c ≡ d → a ≡ b) → eqb a b ≡ eqb c d
@@ -41,14 +39,6 @@ module _ (q s : ℕ) (half : q ≡ 2 * s) where
 
       from : d ≡ (k + s) % q → (d + s) % q ≡ k % q
       from e = ap (λ (x : ℕ). (x + s) % q) e ∙ mod-add-mod (k + s) q s ∙ half-twice k
-
--- a difference and what was taken away
-minus-add : (q a b : ℕ) → 0 < q → (minus q (a % q) (b % q) + b) % q ≡ a % q
-unfolding minus
-minus-add q a b p =
-    let e : a % q + (q - b % q) + b % q ≡ a % q + q = omega (arith, mod-lt b p) in
-    mod-add-mod (a % q + (q - b % q)) q b ∙ sym (add-mod-mod (a % q + (q - b % q)) b q)
-    ∙ rw (e, add-mod-right, mod-mod)
 
 -- b - d is a - c + s where b + c is a + d + s
 pub minus-of-sums : (q s a b c d : ℕ) → 0 < q → (a + d + s) % q ≡ (b + c) % q →

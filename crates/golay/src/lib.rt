@@ -1,1 +1,1 @@
-// Laws of Golay pairs: crate rules, specs/Pair.antt and Autocorrelation.antt. Laws alone, no code.
+// Laws of Golay pairs: crate rules, specs/Pair.antt, Autocorrelation.antt and Envelope.antt. Laws alone, no code.

@@ -1,6 +1,6 @@
 -- What the pair check is to answer on each way out of the code.
--- In order: the shape refused; a length; a symbol; what is left to the counts, and what they require; back, from what is
--- given.
+-- In order: the shape refused; a length; a symbol; what is left to the counts, and what they require; back, from what
+-- is given.
 -- Assumes nothing.
 use Prim.Native.Nat.{ℕ}
 use mathlib.Core.Path.{_≡_, sym}

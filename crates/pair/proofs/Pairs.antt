@@ -1,8 +1,8 @@
--- Laws of the pair check. In order: the test of a pair is the claim; words that agree below N are pairs alike; no word is
--- a pair with itself.
+-- Laws of the pair check. In order: the test of a pair is the claim; words that agree below N are pairs alike; no word
+-- is a pair with itself.
 -- Assumes nothing.
 use Prim.Native.Nat.{ℕ, zero, suc, _+_, _-_, _%_, _≤_, _<_}
-use native.Mathlib.Nat.{mod-eq-of-lt, mod-lt}
+use native.Mathlib.Nat.{mod-eq-of-lt}
 use native.Mathlib.Omega.{arith}
 use mathlib.Core.Path.{_≡_, sym, ap}
 use mathlib.Core.Bool.{true, false}
@@ -16,6 +16,7 @@ use Rattle.range.proofs.Tests.{allBelow-of, allBelow-at, allBelow-not}
 use Rattle.range.proofs.FromOne.{fromOne-of, fromOne-at, fromOne-not}
 use Rattle.rules.specs.Shape.{phases, halfTurn, carriers}
 use Rattle.rules.specs.Pair.{minus, phaseCount, pairCount, GolayPair, golayPair, phasesAgree}
+use Rattle.rules.proofs.Differences.{minus-lt}
 use Rattle.rules.proofs.Turns.{halfTurn-moves}
 
 module _ (h m : ℕ) (a b : ℕ → ℕ) where
@@ -55,8 +56,7 @@ abbrev ends : ℕ → ℕ → (ℕ → ℕ) → ℕ
 ends h n a = minus (phases h) (a 0) (a (0 + (n - 1)))
 
 ends-lt : (h n : ℕ) (a : ℕ → ℕ) → ends h n a < phases h
-unfolding minus
-ends-lt h n a = mod-lt _ (pow-pos h)
+ends-lt h n a = minus-lt (phases h) (a 0) (a (0 + (n - 1))) (pow-pos h)
 
 phaseCount-last : (h n : ℕ) (a : ℕ → ℕ) (k : ℕ) → 1 ≤ n →
     phaseCount h n a (n - 1) k ≡ oneIf (eqb (ends h n a) (k % phases h))

@@ -1,8 +1,10 @@
 -- Laws of sums, counts, searches and lists below a number, and of sums and sizes of whole numbers.
 pub mod Bits
 pub mod Products
+pub mod Remainders
 pub mod Sums
 pub mod Involutions
+pub mod Squares
 pub mod Tests
 pub mod FromOne
 pub mod Lists

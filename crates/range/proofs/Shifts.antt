@@ -1,6 +1,7 @@
--- Natural numbers and whole numbers a constant apart. In order: sums of natural numbers as whole numbers; sums whose
--- summands are multiples of a constant, are a constant apart, or add up to a constant; taking the constant away again;
--- two numbers raised by the same constant are equal, or in order, where the two from which they are raised are.
+-- Natural numbers and whole numbers a constant apart. In order: sums of natural numbers and of their differences as
+-- whole numbers; sums whose summands are multiples of a constant, are a constant apart, or add up to a constant; taking
+-- the constant away again; equal differences; two numbers raised by the same constant are equal, or in order, where the
+-- two from which they are raised are.
 -- Not here: other laws of sums (Sums, SumsSigned).  Assumes nothing.
 use Prim.Native.Nat.{ℕ, zero, suc, _+_, _-_, _*_, _≤_, _<_, zero-le, suc-le-suc}
 use native.Mathlib.Nat.{suc-mul, mul-add}
@@ -9,17 +10,28 @@ use mathlib.Core.Path.{_≡_, refl, sym, _∙_, ap}
 use mathlib.Core.Bool.{Bool, true, false, cond}
 use mathlib.Core.Logic.{_↔_}
 use lib.Dec.{T, ltb, le→leb}
-use lib.IntN.{ℤ, pos, negsuc, negℤ, natAbs, _+ℤ_, _-ℤ_, +ℤ-comm, +ℤ-negℤ-cancel}
+use lib.IntN.{ℤ, pos, negsuc, negℤ, natAbs, _+ℤ_, _-ℤ_, +ℤ-assoc, +ℤ-comm, +ℤ-negℤ-cancel, negℤ-+ℤ}
 use lib.Signed.{leZ}
 use borrow.Author.Tests.{ltb-true, ltb-false}
 use Rattle.range.specs.Below.{sumBelow}
 use Rattle.range.specs.Signed.{sumℤ}
-use Rattle.range.proofs.SumsSigned.{+ℤ-swap, sumℤ-neg}
+use Rattle.range.proofs.SumsSigned.{+ℤ-swap, sumℤ-add, sumℤ-neg}
 
 pub sumℤ-pos : (n : ℕ) (f : ℕ → ℕ) → sumℤ n (λ i. pos (f i)) ≡ pos (sumBelow n f)
 unfolding sumℤ sumBelow
 sumℤ-pos zero f = refl
 sumℤ-pos (suc n) f = rw (sumℤ-pos n (λ i. f (suc i)))
+
+pub differences-add : (p q r s : ℕ) → (pos p -ℤ pos q) +ℤ (pos r -ℤ pos s) ≡ pos (p + r) -ℤ pos (q + s)
+differences-add p q r s =
+    +ℤ-swap (pos p) (negℤ (pos q)) (pos r) (negℤ (pos s))
+    ∙ ap (λ z. pos (p + r) +ℤ z) (sym (negℤ-+ℤ (pos q) (pos s)))
+
+pub sumℤ-difference : (n : ℕ) (f g : ℕ → ℕ) →
+    sumℤ n (λ i. pos (f i) -ℤ pos (g i)) ≡ pos (sumBelow n f) -ℤ pos (sumBelow n g)
+sumℤ-difference n f g =
+    sym (sumℤ-add n (λ i. pos (f i)) (λ i. negℤ (pos (g i))))
+    ∙ rw (sumℤ-pos n f, ← sumℤ-neg n (λ i. pos (g i)), sumℤ-pos n g)
 
 pub sumBelow-mul : (n c : ℕ) (f : ℕ → ℕ) → sumBelow n (λ i. c * f i) ≡ c * sumBelow n f
 unfolding sumBelow
@@ -52,6 +64,12 @@ sumBelow-pairs (suc n) c f g e =
 
 pub shift-back : (a b : ℕ) (z : ℤ) → pos a ≡ pos b +ℤ z → z ≡ pos a -ℤ pos b
 shift-back a b z e = rw (e, +ℤ-comm (pos b) z) (sym (+ℤ-negℤ-cancel z (pos b)))
+
+pub differences-equal : (p q r s : ℕ) → p + s ≡ r + q → pos p -ℤ pos q ≡ pos r -ℤ pos s
+differences-equal p q r s e =
+    let f : r + q ≡ s + p = omega arith in
+    shift-back r s (pos p -ℤ pos q) (sym (+ℤ-negℤ-cancel (pos r) (pos q)) ∙ ap (λ (k : ℕ). pos k -ℤ pos q) f
+    ∙ +ℤ-assoc (pos s) (pos p) (negℤ (pos q)))
 
 leZ-cond : (s t : Bool) (a b c : ℕ) → ltb a c ≡ s → ltb b c ≡ t → a ≤ b →
     T (leZ (cond s (negsuc (c - suc a)) (pos (a - c))) (cond t (negsuc (c - suc b)) (pos (b - c))))

@@ -8,7 +8,8 @@
 --           filled n f d      d filled from the front: f 0, .., f (n - 1), and from n on what d holds there
 --           Written f d i d′ j    a list that, as d, is filled with f up to i is, as d′, filled up to j
 --           rowsBelow n f     the lists f 0, .., f (n - 1), end to end
--- Laws: proofs/Sums.antt, Tests.antt, FromOne.antt, Lists.antt, Filled.antt, Writing.antt.
+-- Laws: proofs/Sums.antt, Involutions.antt, Squares.antt, Tests.antt, FromOne.antt, Lists.antt, Filled.antt,
+-- Writing.antt.
 -- Assumes nothing: these are definitions.
 use Prim.Native.Nat.{ℕ, zero, suc, _+_}
 use mathlib.Core.Path.{_≡_}

@@ -1,8 +1,9 @@
--- Bounds of a shape in range, laws of outcomes and of Best, the starred cases of 01 as one list with one claim, and
--- samples of the other rules. The other laws of the rules: crates paths, words and spectrum.
+-- Bounds of a shape in range, laws of outcomes, of differences modulo q and of Best, the starred cases of 01 as one
+-- list with one claim, and samples of the other rules. The other laws of the rules: crates paths, words and spectrum.
 pub mod Range
 pub mod OutcomeLaws
 pub mod Turns
+pub mod Differences
 pub mod BestLaws
 pub mod Silence
 pub mod KnownWords

@@ -1,5 +1,5 @@
--- Laws of outcomes: rules' Outcome. In order: what is given is not refused, and is one thing; where something is given, no test of the
--- table held, and no place was found.  Assumes nothing.
+-- Laws of outcomes: rules' Outcome. In order: what is given is not refused, and is one thing; where something is
+-- given, no test of the table held, and no place was found.  Assumes nothing.
 use Prim.Native.Nat.{ℕ}
 use native.Mathlib.Omega.{arith}
 use mathlib.Core.Path.{_≡_, refl, sym}

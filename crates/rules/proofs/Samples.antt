@@ -1,6 +1,6 @@
 -- Small sums done by hand, of the rules that no starred case reaches: the spectrum and its stages, what a four-phase
--- symbol hears, Lee distance, the unstarred hard word of 01, the powers of a phase, and autocorrelations. What a
--- transform leaves and refuses: AreaSamples.  Assumes nothing.
+-- symbol hears, Lee distance, the unstarred hard word of 01, the powers of a phase, autocorrelations, and envelope
+-- powers. What a transform leaves and refuses: AreaSamples.  Assumes nothing.
 use Prim.Native.Nat.{ℕ, suc}
 use mathlib.Core.Path.{_≡_, refl}
 use mathlib.Core.List.{[], _∷_, flatMap}
@@ -13,6 +13,7 @@ use Rattle.rules.specs.Label.{labelPath, coefficient, constant}
 use Rattle.rules.specs.Word.{links, formAt, wordAt, symbolAt}
 use Rattle.rules.specs.Pair.{minus}
 use Rattle.rules.specs.Autocorrelation.{turned, phasePower, autocorrelation}
+use Rattle.rules.specs.Envelope.{phaseAt, envelopePower}
 use Rattle.rules.specs.Soft.{heard}
 use Rattle.rules.specs.Distance.{hamming, leeOf, lee, distance}
 use Rattle.rules.specs.Spectrum.{shared, spectrumAt, stage, stages}
@@ -77,3 +78,27 @@ partner-shifts = refl
 later-taken-away : listBelow 2 (autocorrelation 2 2 (symbolAt (0 ∷ 1 ∷ [])) 1) ≡ pos 0 ∷ negsuc 0 ∷ []
 unfolding listBelow autocorrelation sumℤ minus phasePower turned
 later-taken-away = refl
+
+-- the same pair at moments 0 and 1/4: 1 + 1 + 1 - 1 and 1 + i - 1 + i, 1 + 1 - 1 + 1 and 1 + i + 1 - i. All have power
+-- 4, and 4 + 4 is 2 N
+word-powers : listBelow 2 (λ s. listBelow 2 (envelopePower 2 4 (symbolAt (0 ∷ 0 ∷ 0 ∷ 2 ∷ [])) 2 s)) ≡
+    (pos 4 ∷ pos 0 ∷ []) ∷ (pos 4 ∷ pos 0 ∷ []) ∷ []
+unfolding listBelow envelopePower phaseAt sumℤ minus phasePower turned
+word-powers = refl
+
+partner-powers : listBelow 2 (λ s. listBelow 2 (envelopePower 2 4 (symbolAt (0 ∷ 0 ∷ 2 ∷ 0 ∷ [])) 2 s)) ≡
+    (pos 4 ∷ pos 0 ∷ []) ∷ (pos 4 ∷ pos 0 ∷ []) ∷ []
+unfolding listBelow envelopePower phaseAt sumℤ minus phasePower turned
+partner-powers = refl
+
+-- and at moment 1/8, where x is an eighth of a turn: 1 + x + x^2 - x^3 and 1 + x - x^2 + x^3 have the powers
+-- 4 + 2 x - 2 x^3 and 4 - 2 x + 2 x^3, which are 4 + 2 sqrt 2 and 4 - 2 sqrt 2
+word-eighth : listBelow 4 (envelopePower 2 4 (symbolAt (0 ∷ 0 ∷ 0 ∷ 2 ∷ [])) 3 1) ≡
+    pos 4 ∷ pos 2 ∷ pos 0 ∷ negsuc 1 ∷ []
+unfolding listBelow envelopePower phaseAt sumℤ minus phasePower turned
+word-eighth = refl
+
+partner-eighth : listBelow 4 (envelopePower 2 4 (symbolAt (0 ∷ 0 ∷ 2 ∷ 0 ∷ [])) 3 1) ≡
+    pos 4 ∷ negsuc 1 ∷ pos 0 ∷ pos 2 ∷ []
+unfolding listBelow envelopePower phaseAt sumℤ minus phasePower turned
+partner-eighth = refl

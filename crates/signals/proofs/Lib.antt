@@ -1,7 +1,6 @@
 -- Laws of soft values, correlations and distances.
 pub mod Hearing
 pub mod Distances
-pub mod Differences
 pub mod Weights
 pub mod Metric
 pub mod Damage

@@ -4,7 +4,7 @@
 --           differs d         1 where a difference is not 0
 --           weigh ω q n a b   the weight of the difference of two words of n symbols
 -- In order: Lee's weight; differing places; both of 01's distances weigh a difference; the laws of a distance.
--- Not here: rules' distance (Metric), differences (Differences).  Assumes nothing.
+-- Not here: rules' distance (Metric), differences (rules' Differences).  Assumes nothing.
 use Prim.Native.Nat.{ℕ, zero, suc, _+_, _-_, _%_, _≤_, _<_, zero-le, suc-le-suc, min}
 use native.Mathlib.Nat.{mod-lt, mod-eq-of-lt, mod-self, add-mod, mod-eq-sub-mod, zero-mod}
 use native.Mathlib.Decide.{decLt}
@@ -19,7 +19,7 @@ use Rattle.range.proofs.Sums.{sumBelow-cong, sumBelow-zero, oneIf-le}
 use Rattle.rules.specs.Shape.{phases}
 use Rattle.rules.specs.Pair.{minus}
 use Rattle.rules.specs.Distance.{hamming, leeOf, lee}
-use Rattle.signals.proofs.Differences.{minus-lt, minus-self, eq-of-minus, minus-through, minus-back}
+use Rattle.rules.proofs.Differences.{minus-lt, minus-self, eq-of-minus, minus-through, minus-back}
 
 pub record Weight (q : ℕ) (ω : ℕ → ℕ) : Type 0 where
   pub none : ω 0 ≡ 0

@@ -1,7 +1,7 @@
--- The two places of a pair that a stage works on: rules' Spectrum. In order: blocks of twice as many places; what a stage
--- writes at both; what holds at both places of every pair holds at every place.
--- Not here: where the two places stand, and their digits (crate places, Twins), pairs counted by blocks (Blocks), what the
--- stages make of them (Entries).  Assumes nothing.
+-- The two places of a pair that a stage works on: rules' Spectrum. In order: blocks of twice as many places; what a
+-- stage writes at both; what holds at both places of every pair holds at every place.
+-- Not here: where the two places stand, and their digits (crate places, Twins), pairs counted by blocks (Blocks), what
+-- the stages make of them (Entries).  Assumes nothing.
 use Prim.Native.Nat.{ℕ, _+_, _-_, _*_, _^_, _≤_, _<_}
 use native.Mathlib.Nat.{mul-assoc}
 use native.Mathlib.Omega.{arith}

@@ -1,5 +1,6 @@
--- What the decoders and word reading answer to a word that was sent. In order: an answer is found from what it must tell;
--- hard decoding of a word with damage, and of a word as it was written; soft decoding of its clean values; word reading.
+-- What the decoders and word reading answer to a word that was sent. In order: an answer is found from what it must
+-- tell; hard decoding of a word with damage, and of a word as it was written; soft decoding of its clean values; word
+-- reading.
 -- Not here: that the word sent stays the nearest, or the greatest (crate signals, Damage and Noiseless), how far words
 -- stand apart (crate distances).  Assumes nothing.
 use Prim.Native.Nat.{ℕ, _*_, _^_, _-_, _≤_, _<_}

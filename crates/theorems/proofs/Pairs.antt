@@ -1,8 +1,8 @@
 -- Golay pairs, from the definitions to the calls. In order: the word and the partner as lists; the pair check on what
--- encode and partner write, on a word and itself, and on words that cancel; the autocorrelations at shift 0.
+-- encode and partner write, on a word and itself, and on words that cancel; the envelope
+-- powers of both.
 -- Not here: that word and partner are a pair, and that pairs are words that cancel (crate golay).  Assumes nothing.
-use Prim.Native.Nat.{ℕ, _+_, _*_, _≤_, _<_}
-use native.Mathlib.Nat.{mul-assoc}
+use Prim.Native.Nat.{ℕ, _*_, _≤_, _<_}
 use native.Mathlib.Omega.{arith}
 use mathlib.Core.Path.{_≡_, refl, sym, _∙_, ap, ap₂}
 use mathlib.Core.Bool.{true, false, true≢false}
@@ -13,16 +13,18 @@ use lib.IntN.{pos, _+ℤ_}
 use Rattle.range.specs.Below.{oneIf}
 use Rattle.rules.specs.Shape.{inShape, halfTurn, carriers, messages}
 use Rattle.rules.specs.Label.{labelOf}
-use Rattle.rules.specs.Word.{wordAt, partnerAt, wordOf, partnerOf, symbolAt}
+use Rattle.rules.specs.Word.{wordOf, partnerOf, symbolAt}
 use Rattle.rules.specs.Pair.{GolayPair, golayPair}
-use Rattle.rules.specs.Autocorrelation.{autocorrelation, Cancel}
+use Rattle.rules.specs.Autocorrelation.{Cancel}
+use Rattle.rules.specs.Envelope.{envelopePower}
 use Rattle.rules.specs.Outcome.{gives}
 use Rattle.rules.specs.Refusal.{pairOutcome}
 use Rattle.rules.proofs.Range.{inShape-range, range-inM}
 use Rattle.words.proofs.Labels.{labelOf-lt}
 use Rattle.words.proofs.Forms.{wordAt-lt, partnerAt-lt, wordOf-at, partnerOf-at}
-use Rattle.golay.proofs.Autocorrelations.{golayPair-iff-cancel, autocorrelation-whole}
+use Rattle.golay.proofs.Autocorrelations.{golayPair-iff-cancel}
 use Rattle.golay.proofs.LabelPairs.{golayPair-word-partner}
+use Rattle.golay.proofs.Envelopes.{envelopePower-together}
 use Rattle.pair.specs.declared.Paired.{Paired}
 use Rattle.pair.specs.declared.Paired.the-variants.{Yes, No}
 use Rattle.pair.specs.Told.{pairedTold}
@@ -73,7 +75,8 @@ self-not-yes h m w t told e =
     let r = inShape-range h m (given .0) in
     self-no-pair h m (symbolAt w) (r .h-least) (omega (arith, r .m-least)) (golayPair-at h m _ _ (given .1))
 
-pub yes-cancels : (h m : ℕ) (w v : List ℕ) → pairedTold Yes ≡ pairOutcome h m w v → Cancel h m (symbolAt w) (symbolAt v)
+pub yes-cancels : (h m : ℕ) (w v : List ℕ) → pairedTold Yes ≡ pairOutcome h m w v →
+    Cancel h m (symbolAt w) (symbolAt v)
 yes-cancels h m w v told =
     let given = pair-gives h m w v true (sym told) in
     golayPair-iff-cancel h m (symbolAt w) (symbolAt v) (inShape-range h m (given .0) .h-least) .0
@@ -87,14 +90,10 @@ no-cancels-not h m w v told cancel =
     golayPair-iff-cancel h m (symbolAt w) (symbolAt v) (inShape-range h m (given .0) .h-least) .1 cancel in
     true≢false (sym (golayPair-of h m (symbolAt w) (symbolAt v) pair) ∙ given .1)
 
-pub power-together : (h m g t : ℕ) → inShape h m ≡ true → g < messages h m → t < halfTurn h →
-    autocorrelation h (carriers m) (word h m g) 0 t +ℤ autocorrelation h (carriers m) (partner h m g) 0 t
+pub envelope-together : (h m g r s t : ℕ) → inShape h m ≡ true → g < messages h m → h ≤ r → t < halfTurn r →
+    envelopePower h (carriers m) (word h m g) r s t +ℤ envelopePower h (carriers m) (partner h m g) r s t
     ≡ pos (2 * carriers m * oneIf (eqb t 0))
-power-together h m g t shape taken b =
-    let one = inShape-range h m shape .h-least in
-    let l : ℕ = labelOf h m g in
-    let c : ℕ = carriers m * oneIf (eqb t 0) in
-    let e : 2 * carriers m * oneIf (eqb t 0) ≡ c + c = mul-assoc 2 (carriers m) (oneIf (eqb t 0)) ∙ omega arith in
-    ap₂ _+ℤ_ (autocorrelation-whole h (carriers m) (wordAt h m l) t one (λ i _. wordAt-lt h m l i) b)
-    (autocorrelation-whole h (carriers m) (partnerAt h m l) t one (λ i _. partnerAt-lt h m l i) b)
-    ∙ ap pos (sym e)
+envelope-together h m g r s t shape taken l b =
+    envelopePower-together h m (word h m g) (partner h m g) r s t (inShape-range h m shape .h-least) l
+    (λ i _. wordAt-lt h m (labelOf h m g) i) (λ i _. partnerAt-lt h m (labelOf h m g) i)
+    (word-partner h m g shape taken) b

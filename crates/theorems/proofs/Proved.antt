@@ -2,6 +2,7 @@
 use Rattle.rules.specs.Label.{labelOf}
 use Rattle.rules.specs.Word.{wordOf, partnerOf}
 use Rattle.rules.proofs.Range.{inShape-range, range-inM}
+use Rattle.signals.proofs.Noiseless.{clean-fits}
 use Rattle.words.proofs.Labels.{labelOf-lt, labelOf-inj}
 use Rattle.words.proofs.Partners.{partnerOf-not-wordOf}
 use Rattle.golay.proofs.Autocorrelations.{cancel-iff-counts}
@@ -10,7 +11,7 @@ use Rattle.transform.proofs.Unique.{handed-unique}
 use Rattle.decoder.proofs.Outcomes.{hears-found, matches-found}
 use Rattle.theorems.specs.Theorems.{Theorems}
 use Rattle.theorems.proofs.Pairs.{word-partner, partner-cancels, written-pair, self-no-pair, self-not-yes}
-use Rattle.theorems.proofs.Pairs.{power-together, yes-cancels, no-cancels-not}
+use Rattle.theorems.proofs.Pairs.{envelope-together, yes-cancels, no-cancels-not}
 use Rattle.theorems.proofs.Decoding.{damage-two, damage-four, read-back, hard-back, soft-back}
 use Rattle.theorems.proofs.Ones.{sent-one, check-one, read-one, soft-one, hard-one, refusal-one, run-one}
 
@@ -22,9 +23,11 @@ theorems = record {
   self-not-yes = self-not-yes;
   counts-iff-zero = λ h n a b u one. (cancel-iff-counts h n a b u one .1, cancel-iff-counts h n a b u one .0);
   partner-cancels = partner-cancels;
-  power-together = power-together;
   yes-cancels = yes-cancels;
   no-cancels-not = no-cancels-not;
+  envelope-together = envelope-together;
+  soft-greatest = λ h m ys a hears. hears .greatest;
+  hard-nearest = λ h m w a matches. matches .nearest;
   places-apart = λ h m g k shape p q n.
       let r = inShape-range h m shape in
       hamming-apart h m (labelOf h m g) (labelOf h m k) (r .h-least) (range-inM h m r) (labelOf-lt h m g p)
@@ -37,6 +40,7 @@ theorems = record {
   read-back = read-back;
   hard-back = hard-back;
   soft-back = soft-back;
+  clean-fits = λ h m a w small j. clean-fits h m a w small j .0;
   encode-one = λ h m g d o p. sent-one h m g (wordOf h m g) d o p;
   partner-one = λ h m g d o p. sent-one h m g (partnerOf h m g) d o p;
   check-one = check-one;

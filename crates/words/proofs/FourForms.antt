@@ -7,6 +7,7 @@ use native.Mathlib.Omega.{arith}
 use mathlib.Core.Path.{_≡_, sym, _∙_, ap}
 use mathlib.Core.Logic.{_≢_}
 use mathlib.Core.List.{List}
+use Rattle.range.proofs.Remainders.{mod-extend}
 use Rattle.range.proofs.Sums.{sumBelow-sum, sumBelow-cong}
 use Rattle.rules.specs.Shape.{phases, halfTurn}
 use Rattle.rules.specs.Place.{digit}
@@ -15,7 +16,7 @@ use Rattle.rules.specs.Word.{links, formAt}
 use Rattle.paths.proofs.Times.{Distinct}
 use Rattle.paths.proofs.Pairs.{onPair}
 use Rattle.words.proofs.Readings.{Good, linked, linear}
-use Rattle.words.proofs.Halves.{mod-extend, half-of-parity}
+use Rattle.words.proofs.Halves.{half-of-parity}
 use Rattle.words.proofs.Around.{Turned, links-turned, around-turned}
 
 -- digit a turned over, digit b, and both

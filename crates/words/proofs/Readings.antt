@@ -3,8 +3,7 @@
 -- places; the words there; the coefficient read back.
 -- Not here: that the word determines its label (distances' Inject).  Assumes nothing.
 use Prim.Native.Nat.{ℕ, zero, suc, _+_, _-_, _*_, _%_, _^_, _≤_, _<_, suc-le-suc}
-use native.Mathlib.Nat.{le-refl, mul-zero, zero-mul, mul-one, mod-eq-of-lt, mod-add-mod}
-use native.Mathlib.Nat.{add-mod-right}
+use native.Mathlib.Nat.{le-refl, mul-zero, zero-mul, mul-one, mod-eq-of-lt}
 use native.Mathlib.Decide.{ℕ-discrete}
 use native.Mathlib.Omega.{arith}
 use mathlib.Core.Path.{_≡_, refl, sym, _∙_}
@@ -19,6 +18,7 @@ use Rattle.rules.specs.Path.{pathAt}
 use Rattle.rules.specs.Label.{labelPath, coefficient, constant}
 use Rattle.rules.specs.Word.{links, formAt, wordAt}
 use Rattle.rules.specs.Pair.{minus}
+use Rattle.rules.proofs.Differences.{minus-of-sum}
 use Rattle.places.proofs.Digits.{digit-zero, digit-one-at, digit-one-off}
 use Rattle.words.proofs.Labels.{coefficient-lt, constant-lt}
 
@@ -78,11 +78,9 @@ unfolding wordAt
 wordAt-zero h m l = rw formAt-zero (mod-eq-of-lt (constant-lt h l))
 
 -- a + b less b, modulo q
-minus-back : (q a b : ℕ) → a < q → b < q → minus q ((a + b) % q) b ≡ a
-unfolding minus
-minus-back q a b la lb =
-    let e : a + b + (q - b) ≡ a + q = omega arith in
-    mod-add-mod (a + b) q (q - b) ∙ rw (e, add-mod-right) (mod-eq-of-lt la)
+minus-summand : (q a b : ℕ) → a < q → b < q → minus q ((a + b) % q) b ≡ a
+minus-summand q a b la lb =
+    rw (mod-eq-of-lt la, mod-eq-of-lt lb) at (minus-of-sum q a (a + b) b (omega arith) refl)
 
 module _ (h m l : ℕ) (good : Good m (pathAt m (labelPath h m l))) where
   formAt-one : (k : ℕ) → 1 ≤ k → k ≤ m → formAt h m l (2 ^ (m - k)) ≡ coefficient h m l k + constant h l
@@ -99,4 +97,4 @@ module _ (h m l : ℕ) (good : Good m (pathAt m (labelPath h m l))) where
       coefficient h m l k ≡ minus (phases h) (wordAt h m l (2 ^ (m - k))) (wordAt h m l 0)
   coefficient-read k a b =
       rw (wordAt-one k a b, wordAt-zero)
-      (sym (minus-back (phases h) (coefficient h m l k) (constant h l) (coefficient-lt h m l k) (constant-lt h l)))
+      (sym (minus-summand (phases h) (coefficient h m l k) (constant h l) (coefficient-lt h m l k) (constant-lt h l)))

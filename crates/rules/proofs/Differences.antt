@@ -1,12 +1,14 @@
 -- Differences modulo q: rules' minus. In order: they lie below q; by the order of the two numbers; of equal numbers
--- none, and of no others; by way of a third number; the way back.
--- Assumes nothing.
+-- none, and of no others; by way of a third number; the way back; a difference and what was taken away, and a
+-- difference from such a sum.
+-- Not here: sums modulo q (range's Remainders), half a turn (Turns).  Assumes nothing.
 use Prim.Native.Nat.{ℕ, _+_, _-_, _%_, _≤_, _<_}
-use native.Mathlib.Nat.{mod-lt, mod-eq-of-lt, add-mod, add-mod-right}
+use native.Mathlib.Nat.{mod-lt, mod-eq-of-lt, mod-mod, mod-add-mod, add-mod, add-mod-mod, add-mod-right}
 use native.Mathlib.Decide.{decLt}
 use native.Mathlib.Omega.{arith}
 use mathlib.Core.Path.{_≡_, sym, _∙_, ap}
+use Rattle.range.proofs.Remainders.{mod-cancel}
 use Rattle.rules.specs.Pair.{minus}
 
 pub minus-lt : (q a b : ℕ) → 0 < q → minus q a b < q
 unfolding minus
@@ -50,3 +52,18 @@ minus-back q a b p r = at (decLt a b)
     at (no n) =
         let e : q - minus q a b ≡ b + (q - a) = omega (arith, minus-of-le q a b (omega arith) p) in
         rw (e, minus)
+
+-- a difference and what was taken away
+pub minus-add : (q a b : ℕ) → 0 < q → (minus q (a % q) (b % q) + b) % q ≡ a % q
+unfolding minus
+minus-add q a b p =
+    let e : a % q + (q - b % q) + b % q ≡ a % q + q = omega (arith, mod-lt b p) in
+    mod-add-mod (a % q + (q - b % q)) q b
+    ∙ sym (add-mod-mod (a % q + (q - b % q)) b q)
+    ∙ rw (e, add-mod-right, mod-mod)
+
+-- what gives a with b is a - b
+pub minus-of-sum : (q x a b : ℕ) → 0 < q → (x + b) % q ≡ a % q → minus q (a % q) (b % q) ≡ x % q
+minus-of-sum q x a b p e =
+    sym (mod-eq-of-lt (minus-lt q (a % q) (b % q) p))
+    ∙ mod-cancel q (minus q (a % q) (b % q)) x b p (minus-add q a b p ∙ sym e)

@@ -1,0 +1,36 @@
+-- `trips::paired_back` meets its contract: it hands on what encode, partner and check ensure.
+-- Assumes nothing.
+use borrow.Author.Needs.{needs}
+use Rattle.trips.proofs.TripLaws.{paired-trip}
+use Rattle.trips.proofs.paired_back.Statement.{statement}
+use Rattle.trips.proofs.paired_back.Tie as tie
+
+encode-requires : tie.Need-encode-requires
+encode-requires c κs = search needs
+
+partner-requires : tie.Need-partner-requires
+partner-requires c κs = search needs
+
+check-requires : tie.Need-check-requires
+check-requires c κs = search needs
+
+same-length : tie.Need-same-length
+same-length c = search needs
+
+same-length-2 : tie.Need-same-length-2
+same-length-2 c = search needs
+
+-- the two calls before the check
+abbrev partnered : tie.After-check → tie.After-partner
+partnered c = c .before .before .before .before .before
+
+abbrev encoded : tie.After-partner → tie.After-encode
+encoded c = c .before .before .before .before
+
+returns : tie.Need-returns
+returns c =
+    paired-trip (encoded (partnered c) .encode .ensures) (partnered c .partner .ensures) (c .check .ensures .0)
+
+pub paired-back-spec : {M : Type 1} → statement M
+paired-back-spec =
+    tie.close (tie.spec encode-requires partner-requires check-requires same-length same-length-2 returns)

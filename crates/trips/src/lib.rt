@@ -1,0 +1,42 @@
+// Round trips as code: what a sender and a receiver call one after the other, and what comes back. Each promise is a
+// theorem of the index (crate theorems) about the very calls. What they promise is in specs/Trips.antt.
+use decoder::Matched;
+use kinds::MessageNumber;
+use pair::Paired;
+use reader::Reading;
+ghost use Rattle.trips.specs.Trips.{ReadBack, MatchedBack, PairedBack};
+
+// Encodes a message and reads the word: the message comes back. Where encode refuses, the slice stays as it was, and is
+// read so.
+pub fn read_back(h: u32, m: u32, message: MessageNumber, word: &mut [u8]) -> Reading
+    ensures { λ r. ⌜ ReadBack h m (message .0) (now (word .entry)) r (now (word .exit)) ⌝ }
+{
+    encoder::encode(h, m, message, word);
+    reader::read(h, m, word)
+}
+
+// Encodes a message and decodes the word: the message comes back at distance 0, not tied. Eight phases are refused 6
+// by the decoder.
+pub fn matched_back(h: u32, m: u32, message: MessageNumber, word: &mut [u8]) -> Matched
+    ensures { λ r. ⌜ MatchedBack h m (message .0) (now (word .entry)) r (now (word .exit)) ⌝ }
+{
+    encoder::encode(h, m, message, word);
+    decoder::hard(h, m, word)
+}
+
+// Writes a message's word and its partner, and checks them: they are a pair.
+pub fn paired_back(
+    h: u32,
+    m: u32,
+    message: MessageNumber,
+    word: &mut [u8],
+    other: &mut [u8],
+) -> Paired
+    ensures { λ r. ⌜ PairedBack h m (message .0) (now (word .entry)) (now (other .entry)) r
+        (now (word .exit)) (now (other .exit)) ⌝ }
+{
+    let number = message.0;
+    encoder::encode(h, m, MessageNumber(number), word);
+    encoder::partner(h, m, MessageNumber(number), other);
+    pair::check(h, m, word, other)
+}
