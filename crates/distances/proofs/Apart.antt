@@ -1,13 +1,14 @@
 -- THE LAW of distances: the words of two labels lie far apart. In order: two words that lie closer are of the same
 -- path, coefficients and constant, so of the same label; the law for any weight of differences; for differing places,
--- which are a quarter of all at least; for Lee distance, which is half the number of places at least.
+-- which are a quarter of all at least; for Lee distance, which is half the number of places at least; for 01's
+-- distance, which is not 0.
 -- Not here: what a difference in one part weighs (Parts), that equal words are of one label (Inject).  Assumes nothing.
 use Prim.Native.Nat.{ℕ, _-_, _*_, _%_, _^_, _≤_, _<_}
 use native.Mathlib.Nat.{le-refl, mul-le-mul}
 use native.Mathlib.Decide.{ℕ-discrete}
 use native.Mathlib.Omega.{arith, by-contra}
 use mathlib.Core.Path.{_≡_}
-use mathlib.Core.Logic.{_≢_}
+use mathlib.Core.Logic.{_≢_, Dec·not-not}
 use lib.Dec.{T}
 use lib.Pow.{pow-pos, pow-mono}
 use Rattle.rules.specs.Shape.{phases, halfTurn, carriers, inM}
@@ -16,20 +17,17 @@ use Rattle.rules.specs.Label.{labels, labelPath, coefficient, constant}
 use Rattle.rules.specs.Word.{wordAt}
 use Rattle.rules.specs.Distance.{hamming, leeOf, lee, distance}
 use Rattle.rules.proofs.Range.{phases-half, inM-least}
+use Rattle.rules.proofs.Symbols.{wordAt-lt}
 use Rattle.places.proofs.Twins.{carriers-blocks}
 use Rattle.paths.proofs.Links.{path-of-links}
 use Rattle.paths.proofs.Increasing.{pathAt-inj}
-use Rattle.signals.proofs.Distances.{distance-lee}
 use Rattle.signals.proofs.Weights.{Weight, weigh, differs, differs-one, differs-weight, hamming-weigh}
 use Rattle.signals.proofs.Weights.{lee-weight, lee-weigh}
+use Rattle.signals.proofs.Metric.{distance-weigh}
 use Rattle.words.proofs.Labels.{label-inj, labelPath-lt}
-use Rattle.words.proofs.Forms.{wordAt-lt}
-use Rattle.words.proofs.Used.{used-lt, labelPath-isPath}
+use Rattle.words.proofs.Used.{used-lt, labelPath-isPath, labelPath-good}
 use Rattle.distances.proofs.Gaps.{Positive}
 use Rattle.distances.proofs.Parts.{apart, pairLinks, apart-of-links, apart-of-coefficient, apart-of-constant}
-
-pub eq-of-not-ne : (x y : ℕ) → (x ≢ y → ⊥) → x ≡ y
-eq-of-not-ne x y f = elim (ℕ-discrete x y) [ yes e ↦ e | no n ↦ absurd (f n) ]
 
 module _ (h m l k c : ℕ) (ω : ℕ → ℕ) (weight : Weight (phases h) ω) (positive : Positive (phases h) ω) (pos : 1 ≤ h)
     (range : T (inM m)) (ll : l < labels h m) (lk : k < labels h m) (two : c ≤ 2) (half : c ≤ ω (halfTurn h))
@@ -41,11 +39,11 @@ module _ (h m l k c : ℕ) (ω : ℕ → ℕ) (weight : Weight (phases h) ω) (p
   close-links : (a b : ℕ) → 1 ≤ a → a < b → b ≤ m →
       pairLinks h m l a b % 2 ≡ pairLinks h m k a b % 2
   close-links a b la lb lm =
-      eq-of-not-ne _ _ (λ n. omega (
+      Dec·not-not (ℕ-discrete _ _) .0 (λ n. omega (
         arith,
         most (ω (halfTurn h)) half,
-        apart-of-links h m l k ω weight a b la lb lm pos (labelPath-isPath h m l range ll)
-            (labelPath-isPath h m k range lk) n,
+        apart-of-links h m l k ω weight a b la lb lm pos (labelPath-good h m l range ll) (labelPath-good h m k range lk)
+            n,
       ))
 
   close-path : pathAt m (labelPath h m l) ≡ pathAt m (labelPath h m k)
@@ -59,7 +57,7 @@ module _ (h m l k c : ℕ) (ω : ℕ → ℕ) (weight : Weight (phases h) ω) (p
 
   close-coefficient : (r : ℕ) → 1 ≤ r → r ≤ m → coefficient h m l r ≡ coefficient h m k r
   close-coefficient r a b =
-      eq-of-not-ne _ _ (λ n. omega (
+      Dec·not-not (ℕ-discrete _ _) .0 (λ n. omega (
         arith,
         most 2 two,
         apart-of-coefficient h m l k ω weight close-path positive r a b n,
@@ -67,7 +65,7 @@ module _ (h m l k c : ℕ) (ω : ℕ → ℕ) (weight : Weight (phases h) ω) (p
 
   close-constant : constant h l ≡ constant h k
   close-constant =
-      eq-of-not-ne _ _ (λ n. omega (
+      Dec·not-not (ℕ-discrete _ _) .0 (λ n. omega (
         arith,
         most 2 two,
         apart-of-constant h m l k ω weight close-path positive close-coefficient n,
@@ -91,7 +89,7 @@ hamming-apart h m l k pos range ll lk n =
     omega (
       arith,
       hamming-weigh (phases h) (carriers m) _ _ (λ i _. wordAt-lt h m l i) (λ i _. wordAt-lt h m k i),
-      weigh-apart h m l k 1 differs (differs-weight (phases h) (pow-pos h)) positive pos range ll lk n (omega arith)
+      weigh-apart h m l k 1 differs (differs-weight (phases h)) positive pos range ll lk n (omega arith)
           (omega (arith, differs-one (halfTurn h) (pow-pos (h - 1)))),
       carriers-blocks m 2 (inM-least m range),
     )
@@ -111,7 +109,7 @@ lee-apart h m l k u range ll lk n =
     omega (
       arith,
       lee-weigh h (carriers m) (wordAt h m l) (wordAt h m k),
-      weigh-apart h m l k 2 (leeOf h) (lee-weight h pos) (leeOf-positive h) pos range ll lk n (le-refl 2)
+      weigh-apart h m l k 2 (leeOf h) (lee-weight h) (leeOf-positive h) pos range ll lk n (le-refl 2)
           (leeOf-half h u),
       carriers-blocks m 1 (omega (arith, inM-least m range)),
     )
@@ -125,7 +123,6 @@ distance-apart h m l k pos range ll lk n =
     omega (
       arith,
       pow-pos m,
-      distance-lee h (carriers m) _ _ (λ i _. wordAt-lt h m l i) (λ i _. wordAt-lt h m k i),
-      lee-weigh h (carriers m) (wordAt h m l) (wordAt h m k),
-      weigh-apart h m l k 1 (leeOf h) (lee-weight h pos) (leeOf-positive h) pos range ll lk n (omega arith) half,
+      distance-weigh h (carriers m) _ _ (λ i _. wordAt-lt h m l i) (λ i _. wordAt-lt h m k i),
+      weigh-apart h m l k 1 (leeOf h) (lee-weight h) (leeOf-positive h) pos range ll lk n (omega arith) half,
     )

@@ -1,12 +1,12 @@
 -- The difference of two numbers modulo q, and its weight.
 -- Defines:  gap q x y       x - y modulo q, for any two numbers
 --           Positive q ω    no difference modulo q but 0 weighs nothing
--- In order: a summand that both numbers share; the gap of two sums; of two multiples of half a turn;
--- the weights of gaps.
+-- In order: the gap of two sums; of two sums that share a summand; of two multiples of half a turn; the weights of
+-- gaps.
 -- Not here: differences (rules' Differences), weights of words (signals' Weights), sums modulo q (range's Remainders).
 -- Assumes nothing.
 use Prim.Native.Nat.{ℕ, suc, _+_, _-_, _*_, _%_, _≤_, _<_}
-use native.Mathlib.Nat.{mul-suc, mod-lt, mod-eq-of-lt}
+use native.Mathlib.Nat.{add-zero, mul-suc, mod-lt, mod-eq-of-lt}
 use native.Mathlib.Omega.{arith}
 use mathlib.Core.Path.{_≡_, sym, _∙_, ap, ap₂}
 use mathlib.Core.Logic.{_≢_}
@@ -15,21 +15,14 @@ use Rattle.range.proofs.Remainders.{mod-extend, mod-sum}
 use Rattle.rules.specs.Shape.{phases, halfTurn}
 use Rattle.rules.specs.Pair.{minus}
 use Rattle.rules.proofs.Range.{phases-half}
-use Rattle.rules.proofs.Differences.{minus-lt, eq-of-minus, minus-add, minus-of-sum}
+use Rattle.rules.proofs.Turns.{half-of-parity}
+use Rattle.rules.proofs.Differences.{minus-lt, minus-self, eq-of-minus, minus-add, minus-of-sum}
 use Rattle.signals.proofs.Weights.{Weight, weight-back}
-use Rattle.words.proofs.Halves.{half-of-parity}
 
 abbrev pub gap : ℕ → ℕ → ℕ → ℕ
 gap q x y = minus q (x % q) (y % q)
 
 module _ (q : ℕ) (pos : 0 < q) where
-  pub gap-shift : (x y z : ℕ) → gap q (x + z) (y + z) ≡ gap q x y
-  gap-shift x y z =
-      let e : gap q x y + (y + z) ≡ gap q x y + y + z = omega arith in
-      minus-of-sum q (gap q x y) (x + z) (y + z) pos
-      (ap (λ (n : ℕ). n % q) e ∙ mod-extend q (gap q x y + y) x z (minus-add q x y pos))
-      ∙ mod-eq-of-lt (minus-lt q (x % q) (y % q) pos)
-
   gap-sum : (x y u v : ℕ) → gap q (x + u) (y + v) ≡ (gap q x y + gap q u v) % q
   gap-sum x y u v =
       let e : gap q x y + gap q u v + (y + v) ≡ gap q x y + y + (gap q u v + v) = omega arith in
@@ -37,12 +30,17 @@ module _ (q : ℕ) (pos : 0 < q) where
       (ap (λ (n : ℕ). n % q) e
       ∙ mod-sum q (gap q x y + y) x (gap q u v + v) u (minus-add q x y pos) (minus-add q u v pos))
 
+  pub gap-shift : (x y z : ℕ) → gap q (x + z) (y + z) ≡ gap q x y
+  gap-shift x y z =
+      gap-sum x y z z
+      ∙ rw (minus-self q (z % q) (mod-lt z pos), add-zero) (mod-eq-of-lt (minus-lt q (x % q) (y % q) pos))
+
 -- multiples of half a turn by factors of different parity lie half a turn apart
 pub gap-half : (h x y : ℕ) → 1 ≤ h → x % 2 ≢ y % 2 → gap (phases h) (halfTurn h * x) (halfTurn h * y) ≡ halfTurn h
 gap-half h x y b n =
-    let e : halfTurn h + halfTurn h * y ≡ halfTurn h * suc y = omega (arith, mul-suc (halfTurn h) y) in
+    let e : halfTurn h + halfTurn h * y ≡ halfTurn h * suc y + 0 = omega (arith, mul-suc (halfTurn h) y) in
     minus-of-sum (phases h) (halfTurn h) (halfTurn h * x) (halfTurn h * y) (pow-pos h)
-    (ap (λ (n : ℕ). n % phases h) e ∙ half-of-parity h (suc y) x b (omega arith))
+    (ap (λ (n : ℕ). n % phases h) e ∙ half-of-parity h (suc y) x 0 b (omega arith) ∙ rw add-zero)
     ∙ mod-eq-of-lt (omega (arith, phases-half h b, pow-pos (h - 1)))
 
 abbrev pub Positive : ℕ → (ℕ → ℕ) → Type 0
@@ -58,7 +56,7 @@ module _ (q : ℕ) (pos : 0 < q) (ω : ℕ → ℕ) (weight : Weight q ω) where
       (rw (mod-eq-of-lt (minus-lt q (x % q) (y % q) pos), mod-eq-of-lt (minus-lt q (u % q) (v % q) pos))
       at (weight .sum (gap q x y) (gap q u v)))
 
-  -- where x + u is s and y + v is t, u and v are no further apart than x and y with s and t
+  -- where x + u is s and y + v is t, the gap of u and v weighs no more than those of x and y and of s and t together
   pub weight-step : (x y s t u v : ℕ) → (x + u) % q ≡ s % q → (y + v) % q ≡ t % q →
       ω (gap q u v) ≤ ω (gap q x y) + ω (gap q s t)
   weight-step x y s t u v e f =

@@ -2,30 +2,33 @@
 -- distance 0, and those of two labels do not. In order: for labels; for messages.
 -- Not here: how far the words of two labels lie apart (Apart).  Assumes nothing.
 use Prim.Native.Nat.{ℕ, _-_, _≤_, _<_}
+use native.Mathlib.Decide.{ℕ-discrete}
 use native.Mathlib.Omega.{arith}
 use mathlib.Core.Path.{_≡_, sym, _∙_, ap}
 use mathlib.Core.List.{List}
+use mathlib.Core.Logic.{Dec·not-not}
 use lib.Dec.{T}
 use lib.ListN.{getD}
 use lib.Pow.{pow-pos}
 use Rattle.rules.specs.Shape.{phases, carriers, messages, inM}
-use Rattle.rules.specs.Label.{labels, labelOf, messageOf}
+use Rattle.rules.specs.Label.{labels, labelOf}
 use Rattle.rules.specs.Word.{wordAt, wordOf}
+use Rattle.rules.proofs.Symbols.{wordAt-lt}
 use Rattle.signals.proofs.Weights.{differs, differs-weight, hamming-weigh, weigh-zero-of-agree}
-use Rattle.words.proofs.Labels.{messageOf-labelOf, labelOf-lt}
-use Rattle.words.proofs.Forms.{wordAt-lt, wordOf-at}
-use Rattle.distances.proofs.Apart.{eq-of-not-ne, hamming-apart}
+use Rattle.words.proofs.Labels.{labelOf-inj, labelOf-lt}
+use Rattle.words.proofs.Forms.{wordOf-at}
+use Rattle.distances.proofs.Apart.{hamming-apart}
 
 module _ (m : ℕ) (range : T (inM m)) where
-  pub wordAt-inj : (h l k : ℕ) → 1 ≤ h → l < labels h m → k < labels h m →
+  wordAt-inj : (h l k : ℕ) → 1 ≤ h → l < labels h m → k < labels h m →
       ((i : ℕ) → i < carriers m → wordAt h m l i ≡ wordAt h m k i) → l ≡ k
   wordAt-inj h l k pos ll lk same =
-      eq-of-not-ne l k (λ n. omega (
+      Dec·not-not (ℕ-discrete l k) .0 (λ n. omega (
         arith,
         pow-pos (m - 2),
         hamming-apart h m l k pos range ll lk n,
         hamming-weigh (phases h) (carriers m) _ _ (λ i _. wordAt-lt h m l i) (λ i _. wordAt-lt h m k i),
-        weigh-zero-of-agree (phases h) differs (differs-weight (phases h) (pow-pos h)) (carriers m) _ _
+        weigh-zero-of-agree (phases h) differs (differs-weight (phases h)) (carriers m) _ _
             (λ i _. wordAt-lt h m k i) same,
       ))
 
@@ -34,5 +37,4 @@ module _ (m : ℕ) (range : T (inM m)) where
   wordOf-inj h g g′ p b b′ e =
       let same : (i : ℕ) → i < carriers m → wordAt h m (labelOf h m g) i ≡ wordAt h m (labelOf h m g′) i =
       λ i l. sym (wordOf-at h m g i l) ∙ ap (λ (w : List ℕ). getD w i 0) e ∙ wordOf-at h m g′ i l in
-      let f : labelOf h m g ≡ labelOf h m g′ = wordAt-inj h _ _ p (labelOf-lt h m g b) (labelOf-lt h m g′ b′) same in
-      sym (messageOf-labelOf h m g) ∙ ap (messageOf h m) f ∙ messageOf-labelOf h m g′
+      labelOf-inj h m g g′ (wordAt-inj h _ _ p (labelOf-lt h m g b) (labelOf-lt h m g′ b′) same)

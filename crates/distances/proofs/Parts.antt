@@ -16,7 +16,7 @@ use Rattle.range.proofs.Bits.{bit-cases}
 use Rattle.range.proofs.Sums.{sumBelow-cong, sumBelow-ge}
 use Rattle.rules.specs.Shape.{phases, halfTurn, carriers}
 use Rattle.rules.specs.Place.{digit}
-use Rattle.rules.specs.Path.{IsPath, pathAt}
+use Rattle.rules.specs.Path.{pathAt}
 use Rattle.rules.specs.Label.{labelPath, coefficient, constant}
 use Rattle.rules.specs.Word.{links, formAt, wordAt}
 use Rattle.places.proofs.Digits.{digit-lt}
@@ -24,7 +24,7 @@ use Rattle.places.proofs.Flips.{flip, flip-flip, digit-flip-at}
 use Rattle.paths.proofs.Pairs.{onPair}
 use Rattle.signals.proofs.Weights.{Weight, weigh}
 use Rattle.words.proofs.Labels.{coefficient-lt, constant-lt}
-use Rattle.words.proofs.Readings.{linked, linear}
+use Rattle.words.proofs.Readings.{Good, linked, linear}
 use Rattle.distances.proofs.Gaps.{gap, gap-shift, gap-half, weight-gap-sum, weight-step}
 use Rattle.distances.proofs.Gaps.{Positive, weight-step-beside, weight-gap-one}
 use Rattle.distances.proofs.Averages.{sumBelow-ge-flip, sumBelow-ge-flips}
@@ -44,8 +44,8 @@ abbrev pub pairLinks : ℕ → ℕ → ℕ → ℕ → ℕ → ℕ
 pairLinks h m l a b = links (onPair a b) (pathAt m (labelPath h m l))
 
 module _ (h m l k : ℕ) (ω : ℕ → ℕ) (weight : Weight (phases h) ω) where
-  module _ (a b : ℕ) (la : 1 ≤ a) (lb : a < b) (lm : b ≤ m) (pos : 1 ≤ h) (p : IsPath m (pathAt m (labelPath h m l)))
-      (r : IsPath m (pathAt m (labelPath h m k))) (n : pairLinks h m l a b % 2 ≢ pairLinks h m k a b % 2) where
+  module _ (a b : ℕ) (la : 1 ≤ a) (lb : a < b) (lm : b ≤ m) (pos : 1 ≤ h) (p : Good m (pathAt m (labelPath h m l)))
+      (r : Good m (pathAt m (labelPath h m k))) (n : pairLinks h m l a b % 2 ≢ pairLinks h m k a b % 2) where
     links-apartAt : (i : ℕ) → ω (halfTurn h) ≤
         apartAt ω h m l k i + apartAt ω h m l k (flip m a i)
         + (apartAt ω h m l k (flip m b i) + apartAt ω h m l k (flip m a (flip m b i)))
@@ -59,8 +59,8 @@ module _ (h m l k : ℕ) (ω : ℕ → ℕ) (weight : Weight (phases h) ω) wher
           arith,
           ap ω (gap-half h _ _ pos n),
           weight-step (phases h) (pow-pos h) ω weight (f i + f t) (g i + g t) (f j + f s) (g j + g s) _ _
-              (formAt-flips m a b i (omega arith) lm (omega arith) h l pos p)
-              (formAt-flips m a b i (omega arith) lm (omega arith) h k pos r),
+              (formAt-flips h m l a b i pos (omega arith) lm (omega arith) p)
+              (formAt-flips h m k a b i pos (omega arith) lm (omega arith) r),
           weight-gap-sum (phases h) (pow-pos h) ω weight (f i) (g i) (f t) (g t),
           weight-gap-sum (phases h) (pow-pos h) ω weight (f j) (g j) (f s) (g s),
         )

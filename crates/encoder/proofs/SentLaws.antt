@@ -1,7 +1,7 @@
 -- Laws of the promise of encode and partner.
 -- In order: the outcome, refusal by refusal, and back; the promise of a refusal and of a word written; a word said in
--- another way; only one outcome satisfies it; the slice where nothing is refused, and where something is.  Assumes
--- nothing.
+-- another way; only one outcome satisfies it; the slice where nothing is refused, and where something is.
+-- Assumes nothing.
 use Prim.Native.Nat.{ℕ, _<_}
 use mathlib.Core.Path.{_≡_, refl, sym, _∙_, ap, subst}
 use mathlib.Core.Bool.{true, false}
@@ -67,7 +67,7 @@ sent-cong {h} {m} {g} {before = before} {r = r} {after = after} e s =
     subst (λ (w : List ℕ). Sent h m g w before r after) e s
 
 -- an answer is read back from what it tells
-writtenTold-inj : (r s : Written) → writtenTold r ≡ writtenTold s → r ≡ s
+pub writtenTold-inj : (r s : Written) → writtenTold r ≡ writtenTold s → r ≡ s
 writtenTold-inj Done Done e = refl
 writtenTold-inj Done (Refused s) e = absurd (gives-not-refuses e)
 writtenTold-inj (Refused r) Done e = absurd (gives-not-refuses (sym e))

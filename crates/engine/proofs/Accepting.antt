@@ -2,7 +2,7 @@
 -- holds where they are passed, and that no gain is too great there; how long a table is, as code counts it; what a
 -- search answers.
 -- Not here: the search through the labels (AllPaths, PathLaws).  Assumes nothing.
-use Prim.Native.Nat.{ℕ, _+_, _-_, _*_, _^_, _≤_, _<_}
+use Prim.Native.Nat.{ℕ, _+_, _*_, _^_, _≤_, _<_}
 use native.Mathlib.Nat.{mul-le-mul}
 use native.Mathlib.Decide.{decLt}
 use native.Mathlib.Omega.{arith}

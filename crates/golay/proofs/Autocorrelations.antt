@@ -3,25 +3,24 @@
 -- In order: a difference that is 0; an autocorrelation as two counts, and the two of a pair together; they cancel where
 -- the counts agree half a turn on, at one coordinate, at one shift and at all; shift 0.
 -- Not here: the powers that are summed (Powers).  Assumes nothing.
-use Prim.Native.Nat.{ℕ, _+_, _-_, _*_, _%_, _≤_, _<_}
+use Prim.Native.Nat.{ℕ, _+_, _-_, _*_, _≤_, _<_}
 use native.Mathlib.Nat.{add-mod-right, add-zero, sub-zero}
 use native.Mathlib.Decide.{decLt}
 use native.Mathlib.Omega.{arith}
-use mathlib.Core.Path.{_≡_, refl, sym, _∙_, ap}
+use mathlib.Core.Path.{_≡_, sym, _∙_, ap}
 use mathlib.Core.Logic.{_↔_}
 use lib.Dec.{eqb}
-use lib.IntN.{pos, natAbs, _+ℤ_, _-ℤ_, +ℤ-idr, +ℤ-invr, -ℤ-+ℤ-cancel}
+use lib.IntN.{pos, natAbs, _+ℤ_, _-ℤ_, +ℤ-invr, -ℤ-+ℤ-cancel}
 use lib.Pow.{pow-pos}
 use Rattle.range.specs.Below.{countBelow, oneIf}
-use Rattle.range.proofs.Sums.{sumBelow-zero}
 use Rattle.range.proofs.SumsSigned.{sumℤ-cong}
-use Rattle.range.proofs.Shifts.{differences-add, sumℤ-difference, sumℤ-less}
+use Rattle.range.proofs.Shifts.{differences-add, sumℤ-const}
 use Rattle.rules.specs.Shape.{phases, halfTurn, carriers}
 use Rattle.rules.specs.Pair.{minus, phaseCount, pairCount, GolayPair}
 use Rattle.rules.specs.Autocorrelation.{phasePower, autocorrelation, Cancel}
 use Rattle.rules.proofs.Range.{phases-half}
 use Rattle.rules.proofs.Differences.{minus-lt, minus-self}
-use Rattle.golay.proofs.Powers.{phasePower-zero, phasePower-tests}
+use Rattle.golay.proofs.Powers.{phasePower-zero, sumℤ-phasePower}
 
 difference-zero : (p q : ℕ) → (pos p -ℤ pos q ≡ pos 0) ↔ (p ≡ q)
 difference-zero p q = (
@@ -29,16 +28,12 @@ difference-zero p q = (
   λ e. rw e (+ℤ-invr (pos q)),
 )
 
-pub autocorrelation-counts : (h n : ℕ) (a : ℕ → ℕ) (u t : ℕ) → 1 ≤ h → t < halfTurn h →
+autocorrelation-counts : (h n : ℕ) (a : ℕ → ℕ) (u t : ℕ) → 1 ≤ h → t < halfTurn h →
     autocorrelation h n a u t ≡ pos (phaseCount h n a u t) -ℤ pos (phaseCount h n a u (t + halfTurn h))
 unfolding autocorrelation phaseCount countBelow
 autocorrelation-counts h n a u t one b =
-    let d : ℕ → ℕ = λ i. minus (phases h) (a i) (a (i + u)) in
-    let f : ℕ → ℕ = λ i. oneIf (eqb (d i) (t % phases h)) in
-    let g : ℕ → ℕ = λ i. oneIf (eqb (d i) ((t + halfTurn h) % phases h)) in
-    sumℤ-cong (n - u) (λ i. phasePower h (d i) t) (λ i. pos (f i) -ℤ pos (g i))
-    (λ i _. phasePower-tests h (d i) t one (minus-lt (phases h) (a i) (a (i + u)) (pow-pos h)) b)
-    ∙ sumℤ-difference (n - u) f g
+    sumℤ-phasePower h (n - u) (λ i. minus (phases h) (a i) (a (i + u))) t one
+    (λ i. minus-lt (phases h) (a i) (a (i + u)) (pow-pos h)) b
 
 -- counts are for phases modulo 2^h
 pairCount-turn : (h n : ℕ) (a b : ℕ → ℕ) (u k : ℕ) → pairCount h n a b u (k + phases h) ≡ pairCount h n a b u k
@@ -91,12 +86,11 @@ golayPair-iff-cancel h m a b one = (
 )
 
 -- at shift 0 it is n: n at coordinate 0, and 0 at the others
-pub autocorrelation-whole : (h n : ℕ) (a : ℕ → ℕ) (t : ℕ) → 1 ≤ h → ((i : ℕ) → i < n → a i < phases h) →
-    t < halfTurn h → autocorrelation h n a 0 t ≡ pos (n * oneIf (eqb t 0))
+pub autocorrelation-whole : (h n : ℕ) (a : ℕ → ℕ) (t : ℕ) → ((i : ℕ) → i < n → a i < phases h) →
+    autocorrelation h n a 0 t ≡ pos (n * oneIf (eqb t 0))
 unfolding autocorrelation
-autocorrelation-whole h n a t _ inside _ =
-    let c : ℕ = oneIf (eqb t 0) in
+autocorrelation-whole h n a t inside =
     rw (sub-zero n)
-    (sumℤ-less n c (λ i. phasePower h (minus (phases h) (a i) (a (i + 0))) t) (λ _. 0)
-    (λ i b. rw (add-zero i, minus-self (phases h) (a i) (inside i b)) (phasePower-zero h t ∙ sym (+ℤ-idr (pos c))))
-    ∙ rw (sumBelow-zero n (λ _. 0) (λ _ _. refl)) (+ℤ-idr (pos (n * c))))
+    (sumℤ-cong n (λ i. phasePower h (minus (phases h) (a i) (a (i + 0))) t) (λ _. pos (oneIf (eqb t 0)))
+    (λ i b. rw (add-zero i, minus-self (phases h) (a i) (inside i b)) (phasePower-zero h t))
+    ∙ sumℤ-const n (oneIf (eqb t 0)))

@@ -70,8 +70,9 @@ module _ (h n : ℕ) (a b : ℕ → ℕ) (u : ℕ)
       ))
 
 -- what is left of a turn, where half a turn is added
-round-half : (q s k : ℕ) → 0 < q → q ≡ 2 * s → k < q → (q - (k + s) % q) % q ≡ ((q - k) % q + s) % q
-round-half q s k p half b =
+round-half : (q s k : ℕ) → q ≡ 2 * s → k < q → (q - (k + s) % q) % q ≡ ((q - k) % q + s) % q
+round-half q s k half b =
+    let p : 0 < q = omega arith in
     let y : ℕ = (k + s) % q in
     let e : q - y + y ≡ q = omega (arith, mod-lt (k + s) p) in
     let f : q - k + s + (k + s) ≡ q + q = omega arith in
@@ -82,5 +83,5 @@ round-half q s k p half b =
 pub keepsHalf-round : (r : ℕ) → 1 ≤ r → KeepsHalf r r (λ k. (phases r - k) % phases r)
 keepsHalf-round r one = record {
   inside = λ k. mod-lt (phases r - k) (pow-pos r);
-  half = λ k b. round-half (phases r) (halfTurn r) k (pow-pos r) (phases-half r one) b;
+  half = λ k b. round-half (phases r) (halfTurn r) k (phases-half r one) b;
 }

@@ -49,11 +49,11 @@ module _ (h m l f : ℕ) (p : List ℕ) (one : 1 ≤ h) (is : pathAt m (labelPat
       CancelAt h (wordAt h m l) (partnerAt h m l) u i (flip m (pivot m f p u i) i)
   cancel-agree s =
       let le : pivot m f p u i ≤ m = pivot-in m f p path u i .1 in
-      let same : digit m i (pivot m f p u i) ≡ digit m (i + u) (pivot m f p u i) = pivot-same m f p path u i s in
+      let same : digit m i (pivot m f p u i) ≡ digit m (i + u) (pivot m f p u i) = pivot-same m f p u i s in
       let good : Good m (pathAt m (labelPath h m l)) = rw is (isPath-good m (f ∷ p) path) in
       let odd : OddAround m (pivot m f p u i) i (i + u) (pathAt m (labelPath h m l)) =
       rw is (pivot-odd m f p path u i s pos (omega arith)) in
-      inr (rw (← (flip-on m f p path u i s)) (
+      inr (rw (← (flip-on m f p u i s)) (
         word-turned h m l (pivot m f p u i) i (i + u) one le same good odd,
         partner-turned h m l (pivot m f p u i) i (i + u) one le same good odd (rw is (first-le m f p path)),
       ))
@@ -78,7 +78,7 @@ module _ (h m l f : ℕ) (p : List ℕ) (one : 1 ≤ h) (is : pathAt m (labelPat
       pairCount-half-of-turning h (carriers m) (wordAt h m l) (partnerAt h m l) u (mate m (f ∷ p) u) one
       (mates-turning u pos) k
 
-pub golayPair-of-path : (h m l : ℕ) → 1 ≤ h → IsPath m (pathAt m (labelPath h m l)) →
+golayPair-of-path : (h m l : ℕ) → 1 ≤ h → IsPath m (pathAt m (labelPath h m l)) →
     GolayPair h m (wordAt h m l) (partnerAt h m l)
 golayPair-of-path h m l one path = at (pathAt m (labelPath h m l)) refl path
   where

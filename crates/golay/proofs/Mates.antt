@@ -1,30 +1,32 @@
--- The mate of a place i, for another place u on and a path: where the digits of the two places at the path's first step
--- agree, the step before the first at which they differ is turned over in i, and else i is its own mate.
+-- The mate of a place i, for a shift u and a path. The digits of the places i and i + u are compared along the path.
+-- Where they agree at its first step, the mate is i with one digit turned over: that of the step before the first at
+-- which they differ. Else i is its own mate.
 -- Defines:  pivot m f p u i      the step that is turned over, for the path f ∷ p
 --           OddAround m a i j p  the digits of i and j around step a of a path have an odd sum
 --           mate m p u i         the mate of place i
--- In order: the steps of a path; two places that agree in a digit, with it turned over in both; the pivot; the mate by
--- the digits at the first step; what stands around the pivot; the mate has a place u on too, and its mate is i.
+-- In order: two places that agree in a digit, with it turned over in both; the steps of a path lie in 1..m; the mate by
+-- the digits at the first step; the pivot and what stands around it; the mate has a place u on too, and its mate is i.
 -- Not here: what words have at mates (Balance).  Assumes nothing.
 use Prim.Native.Nat.{ℕ, _+_, _-_, _%_, _≤_, _<_}
 use native.Mathlib.Decide.{ℕ-discrete}
 use native.Mathlib.Omega.{arith}
-use mathlib.Core.Path.{_≡_, refl, sym, _∙_, ap}
-use mathlib.Core.Logic.{_≢_, _⊎_, inl, inr}
+use mathlib.Core.Path.{_≡_, refl, _∙_, ap}
+use mathlib.Core.Logic.{_≢_}
 use mathlib.Core.Bool.{cond}
-use mathlib.Core.List.{List, [], _∷_, List·Memᴰ, List·Memᴰ·head, List·Memᴰ·tail, List·Memᴰ·cases-cons}
+use mathlib.Core.List.{List, [], _∷_, List·Memᴰ, List·Memᴰ·head, List·Memᴰ·tail}
 use lib.Dec.{eqb}
 use borrow.Author.Tests.{eq-eqb, ne-eqb, eqb-true}
+use Rattle.range.proofs.Tests.{eqb-of-iff}
 use Rattle.rules.specs.Shape.{carriers}
 use Rattle.rules.specs.Place.{digit}
 use Rattle.rules.specs.Path.{IsPath}
 use Rattle.places.proofs.Digits.{digit-lt, place-by-digits}
-use Rattle.places.proofs.Flips.{flip, flip-lt, digit-flip-at, digit-flip-off, flip-flip, flip-shift}
-use Rattle.paths.proofs.Times.{times-of-mem, mem-of-times}
-use Rattle.paths.proofs.UpTo.{in-upTo}
-use Rattle.paths.proofs.Members.{isPath-isOrder, isPath-unique}
+use Rattle.places.proofs.Flips.{flip, flip-lt, flip-flip, flip-shift, digit-flip-balance}
+use Rattle.paths.proofs.Times.{mem-of-times}
+use Rattle.paths.proofs.Members.{isPath-within, isPath-unique}
 use Rattle.words.proofs.Around.{around}
-use Rattle.words.proofs.Before.{stepBefore, stepBefore-same, stepBefore-in, stepBefore-cong, around-before}
+use Rattle.words.proofs.Before.{stepBefore, stepBefore-same, stepBefore-in, stepBefore-cong, agree-cons}
+use Rattle.words.proofs.Before.{around-before}
 
 abbrev pub pivot : ℕ → ℕ → List ℕ → ℕ → ℕ → ℕ
 pivot m f p u i = stepBefore (digit m i) (digit m (i + u)) f p
@@ -36,21 +38,13 @@ unfoldable pub mate : ℕ → List ℕ → ℕ → ℕ → ℕ
 mate m [] u i = i
 mate m (f ∷ p) u i = cond (eqb (digit m i f) (digit m (i + u) f)) (flip m (pivot m f p u i) i) i
 
-isPath-within : (m : ℕ) (p : List ℕ) → IsPath m p → (k : ℕ) → List·Memᴰ k p → (1 ≤ k) × (k ≤ m)
-isPath-within m p r k i = in-upTo m k (rw (isPath-isOrder m p r .same k) at (times-of-mem k p i))
-
 -- places that agree in digit a differ, with it turned over in both, where they did
 eqb-flip : (m a i j k : ℕ) → a ≤ m → k ≤ m → digit m i a ≡ digit m j a →
     eqb (digit m (flip m a i) k) (digit m (flip m a j) k) ≡ eqb (digit m i k) (digit m j k)
-eqb-flip m a i j k la lk s = at (ℕ-discrete k a)
-  where
-    at : Dec (k ≡ a) → eqb (digit m (flip m a i) k) (digit m (flip m a j) k) ≡ eqb (digit m i k) (digit m j k)
-    at (yes e) =
-        let before : digit m i k ≡ digit m j k = rw e s in
-        let after : digit m (flip m a i) k ≡ digit m (flip m a j) k =
-        rw e (omega (arith, digit-flip-at m a i, digit-flip-at m a j)) in
-        eq-eqb _ _ after ∙ sym (eq-eqb _ _ before)
-    at (no n) = rw (digit-flip-off m a k i la lk n, digit-flip-off m a k j la lk n)
+eqb-flip m a i j k la lk s =
+    let balance = digit-flip-balance m a i j k la lk s in
+    eqb-of-iff (digit m (flip m a i) k) (digit m (flip m a j) k) (digit m i k) (digit m j k) (λ e. omega arith)
+    (λ e. omega arith)
 
 module _ (m f : ℕ) (p : List ℕ) (path : IsPath m (f ∷ p)) where
   pub first-le : f ≤ m
@@ -68,25 +62,22 @@ module _ (m f : ℕ) (p : List ℕ) (u i : ℕ) where
   unfolding mate
   mate-flip s = rw (eq-eqb _ _ s)
 
--- where the digits at the first step agree
-module _ (m f : ℕ) (p : List ℕ) (path : IsPath m (f ∷ p)) (u i : ℕ) (s : digit m i f ≡ digit m (i + u) f) where
-  pub pivot-same : digit m i (pivot m f p u i) ≡ digit m (i + u) (pivot m f p u i)
-  pivot-same = stepBefore-same (digit m i) (digit m (i + u)) f p s
+  pub pivot-same : digit m i f ≡ digit m (i + u) f → digit m i (pivot m f p u i) ≡ digit m (i + u) (pivot m f p u i)
+  pivot-same s = stepBefore-same (digit m i) (digit m (i + u)) f p s
 
   -- the place u on from the mate
-  pub flip-on : flip m (pivot m f p u i) (i + u) ≡ flip m (pivot m f p u i) i + u
-  flip-on = flip-shift m (pivot m f p u i) i (i + u) u pivot-same refl
+  pub flip-on : digit m i f ≡ digit m (i + u) f → flip m (pivot m f p u i) (i + u) ≡ flip m (pivot m f p u i) i + u
+  flip-on s = flip-shift m (pivot m f p u i) i (i + u) u (pivot-same s) refl
 
-  agree : ((k : ℕ) → List·Memᴰ k p → digit m i k ≡ digit m (i + u) k) → (k : ℕ) → (k ≡ f) ⊎ List·Memᴰ k p →
-      digit m i k ≡ digit m (i + u) k
-  agree e k (inl q) = rw q s
-  agree e k (inr t) = e k t
-
+-- where the digits at the first step agree
+module _ (m f : ℕ) (p : List ℕ) (path : IsPath m (f ∷ p)) (u i : ℕ) (s : digit m i f ≡ digit m (i + u) f) where
   -- two places differ in a digit, and not at the first step
   rest-differ : 1 ≤ u → i + u < carriers m → ((k : ℕ) → List·Memᴰ k p → digit m i k ≡ digit m (i + u) k) → ⊥
   rest-differ pos fits e =
-      let same : i ≡ i + u = place-by-digits m i (i + u) (omega arith) fits (λ k one l.
-      agree e k (List·Memᴰ·cases-cons (mem-of-times k (f ∷ p) (omega (arith, path .each k one l))))) in
+      let stands : (k : ℕ) → 1 ≤ k → k ≤ m → List·Memᴰ k (f ∷ p) =
+      λ k a b. mem-of-times k (f ∷ p) (omega (arith, path .each k a b)) in
+      let same : i ≡ i + u = place-by-digits m i (i + u) (omega arith) fits
+      (λ k a b. agree-cons (digit m i) (digit m (i + u)) f p s e k (stands k a b)) in
       omega arith
 
   pub pivot-odd : 1 ≤ u → i + u < carriers m → OddAround m (pivot m f p u i) i (i + u) (f ∷ p)
@@ -97,7 +88,9 @@ module _ (m f : ℕ) (p : List ℕ) (path : IsPath m (f ∷ p)) (u i : ℕ) (s :
   differ-kept : (k : ℕ) → k ≤ m →
       eqb (digit m (flip m (pivot m f p u i) i) k) (digit m (flip m (pivot m f p u i) i + u) k)
       ≡ eqb (digit m i k) (digit m (i + u) k)
-  differ-kept k l = rw (← flip-on) (eqb-flip m _ i (i + u) k (pivot-in m f p path u i .1) l pivot-same)
+  differ-kept k l =
+      rw (← (flip-on m f p u i s))
+      (eqb-flip m (pivot m f p u i) i (i + u) k (pivot-in m f p path u i .1) l (pivot-same m f p u i s))
 
   pivot-kept : pivot m f p u (flip m (pivot m f p u i) i) ≡ pivot m f p u i
   pivot-kept =
@@ -115,7 +108,7 @@ module _ (m f : ℕ) (p : List ℕ) (path : IsPath m (f ∷ p)) (u i : ℕ) (s :
   flip-fits : i < carriers m - u → flip m (pivot m f p u i) i < carriers m - u
   flip-fits l =
       let r : (1 ≤ pivot m f p u i) × (pivot m f p u i ≤ m) = pivot-in m f p path u i in
-      omega (arith, flip-on, flip-lt m (pivot m f p u i) (i + u) (r .0) (r .1) (omega arith))
+      omega (arith, flip-on m f p u i s, flip-lt m (pivot m f p u i) (i + u) (r .0) (r .1) (omega arith))
 
 module _ (m f : ℕ) (p : List ℕ) (path : IsPath m (f ∷ p)) (u i : ℕ) where
   pub mate-fits : i < carriers m - u → mate m (f ∷ p) u i < carriers m - u

@@ -2,42 +2,32 @@
 -- that are a pair are themselves a pair.
 -- Defines:  moved h r s u d    what moment s / 2^r makes of a difference d of the symbols at two places u apart: s u
 --                              steps fewer, which are s u (2^r - 1) steps more
--- In order: multiples of c modulo c q; whole turns; the steps of 2^r phases in one of 2^h, and in half a turn; moved
--- keeps half a turn, and makes the difference of the phases out of that of the symbols; the phases; the pair.
+-- In order: whole turns; the steps of 2^r phases in one of 2^h, and in half a turn; moved keeps half a turn, and makes
+-- the difference of the phases out of that of the symbols; the phases; the pair.
 -- Not here: what follows for the powers (Envelopes), maps that keep half a turn (HalfMaps).  Assumes nothing.
-use Prim.Native.Nat.{ℕ, suc, _+_, _-_, _*_, _/_, _%_, _^_, _≤_, _<_}
-use native.Mathlib.Nat.{mod-lt, mod-eq-of-lt, mod-add-mod, add-mul-mod-self-right, div-add-mod', mul-suc}
+use Prim.Native.Nat.{ℕ, suc, _+_, _-_, _*_, _%_, _^_, _≤_, _<_}
+use native.Mathlib.Nat.{mod-lt, mod-add-mod, add-mul-mod-self-right, mul-suc}
 use native.Mathlib.Omega.{arith}
 use mathlib.Core.Path.{_≡_, sym, _∙_, ap}
 use lib.Pow.{pow-pos, pow-add}
 use Rattle.range.specs.Below.{sumBelow}
+use Rattle.range.proofs.Remainders.{mod-scaled}
 use Rattle.range.proofs.Sums.{sumBelow-cong}
 use Rattle.rules.specs.Shape.{phases, halfTurn, carriers}
 use Rattle.rules.specs.Pair.{minus, pairCount, GolayPair}
 use Rattle.rules.specs.Envelope.{phaseAt}
-use Rattle.rules.proofs.Differences.{minus-add, minus-of-sum}
+use Rattle.rules.proofs.Differences.{minus-add-of-lt, minus-of-sum}
 use Rattle.golay.proofs.Turning.{apart, hits, pairCount-sum}
 use Rattle.golay.proofs.HalfMaps.{KeepsHalf, hits-mapped}
 
 abbrev moved : ℕ → ℕ → ℕ → ℕ → ℕ → ℕ
 moved h r s u d = (2 ^ (r - h) * d + s * u * (phases r - 1)) % phases r
 
--- a factor of c is taken modulo q
-mod-scaled : (c q x v : ℕ) → (c * (x % q) + v) % (c * q) ≡ (c * x + v) % (c * q)
-mod-scaled c q x v =
-    let e : c * x ≡ c * (x / q * q + x % q) = ap (λ (k : ℕ). c * k) (sym (div-add-mod' x q)) in
-    let f : c * x + v ≡ c * (x % q) + v + x / q * (c * q) = omega arith in
-    rw f (sym (add-mul-mod-self-right (c * (x % q) + v) (x / q) (c * q)))
-
 -- w turns but for one step of each, and those steps
 turns-rest : (q w : ℕ) → 0 < q → w * (q - 1) + w ≡ w * q
 turns-rest q w p =
     let e : q ≡ suc (q - 1) = omega arith in
     sym (mul-suc w (q - 1)) ∙ ap (λ (k : ℕ). w * k) (sym e)
-
--- a difference of phases and what was taken away
-minus-add-lt : (q x y : ℕ) → x < q → y < q → (minus q x y + y) % q ≡ x
-minus-add-lt q x y p l = rw (mod-eq-of-lt p, mod-eq-of-lt l) at (minus-add q x y (omega arith))
 
 module _ (h r : ℕ) (one : 1 ≤ h) (le : h ≤ r) where
   steps-turn : 2 ^ (r - h) * phases h ≡ phases r
@@ -73,7 +63,7 @@ module _ (h r : ℕ) (one : 1 ≤ h) (le : h ≤ r) where
       rw e
       (add-mul-mod-self-right (c * (d + y) + s * i) (s * u) (phases r)
       ∙ sym (steps-mod (d + y) (s * i))
-      ∙ ap (λ (k : ℕ). (c * k + s * i) % phases r) (minus-add-lt (phases h) x y p q))
+      ∙ ap (λ (k : ℕ). (c * k + s * i) % phases r) (minus-add-of-lt (phases h) x y p q))
 
   apart-moved : (a : ℕ → ℕ) (s u i : ℕ) → a i < phases h → a (i + u) < phases h →
       apart r (phaseAt h a r s) u i ≡ moved h r s u (apart h a u i)

@@ -1,7 +1,8 @@
 -- Laws of phasePower: the powers of x modulo x^(2^(h-1)) + 1, told by their coordinates.
 -- In order: turning carries a coordinate on, and the last one back negated; half a turn more negates, and a whole turn
--- more changes nothing; x^0, x^e below half a turn, and x^e below a whole turn, by tests for a phase.
--- Not here: sums of powers (Autocorrelations).  Assumes nothing.
+-- more changes nothing; x^0, x^e below half a turn, and x^e below a whole turn, by tests for a phase; a sum of powers,
+-- by how often two phases are taken.
+-- Not here: autocorrelations (Autocorrelations), envelope powers (Envelopes).  Assumes nothing.
 use Prim.Native.Nat.{ℕ, zero, suc, _+_, _-_, _%_, _≤_, _<_}
 use native.Mathlib.Nat.{zero-add, add-zero, add-suc, mod-eq-of-lt}
 use native.Mathlib.Decide.{decLt}
@@ -11,7 +12,11 @@ use mathlib.Core.Bool.{false}
 use lib.Dec.{eqb, eqb·suc-suc, eqb·suc-zero, eqb·zero-suc}
 use lib.IntN.{pos, negℤ, _-ℤ_, negℤ-negℤ, +ℤ-idl, +ℤ-idr}
 use borrow.Author.Tests.{ne-eqb}
-use Rattle.range.specs.Below.{oneIf}
+use Rattle.range.specs.Below.{sumBelow, oneIf}
+use Rattle.range.specs.Signed.{sumℤ}
+use Rattle.range.proofs.Tests.{eqb-of-iff}
+use Rattle.range.proofs.SumsSigned.{sumℤ-cong}
+use Rattle.range.proofs.Shifts.{sumℤ-difference}
 use Rattle.rules.specs.Shape.{phases, halfTurn}
 use Rattle.rules.specs.Autocorrelation.{turned, phasePower}
 use Rattle.rules.proofs.Range.{phases-half}
@@ -46,7 +51,7 @@ unfolding phasePower
 phasePower-zero h zero = refl
 phasePower-zero h (suc t) = rw (eqb·suc-zero t)
 
--- x^e is its own coordinate below half a turn
+-- below half a turn x^e has a 1 at coordinate e
 phasePower-below : (h e t : ℕ) → e < halfTurn h → t < halfTurn h → phasePower h e t ≡ pos (oneIf (eqb e t))
 unfolding phasePower turned
 phasePower-below h zero zero p q = refl
@@ -57,10 +62,9 @@ phasePower-below h (suc e) zero p q =
 phasePower-below h (suc e) (suc t) p q = rw (eqb·suc-suc e t) (phasePower-below h e t (omega arith) (omega arith))
 
 eqb-add : (a b k : ℕ) → eqb (a + k) (b + k) ≡ eqb a b
-eqb-add a b zero = rw (add-zero a, add-zero b)
-eqb-add a b (suc k) = rw (add-suc a k, add-suc b k, eqb·suc-suc (a + k) (b + k)) (eqb-add a b k)
+eqb-add a b k = eqb-of-iff (a + k) (b + k) a b (λ e. omega arith) (λ e. omega arith)
 
--- and one that comes back negated from there on
+-- from half a turn on it has a -1 at coordinate e less half a turn
 phasePower-above : (h e t : ℕ) → 1 ≤ h → halfTurn h ≤ e → e < phases h → t < halfTurn h →
     phasePower h e t ≡ negℤ (pos (oneIf (eqb e (t + halfTurn h))))
 phasePower-above h e t one a p q =
@@ -69,7 +73,7 @@ phasePower-above h e t one a p q =
     let l : d < halfTurn h = omega (arith, phases-half h one) in
     cc (phasePower-half h d t q, phasePower-below h d t l q, eqb-add d t (halfTurn h))
 
--- x^e has one coordinate: 1 at e below half a turn, -1 at e less half a turn from there on
+-- both in one
 phasePower-is : (h e t : ℕ) → 1 ≤ h → e < phases h → t < halfTurn h →
     phasePower h e t ≡ pos (oneIf (eqb e t)) -ℤ pos (oneIf (eqb e (t + halfTurn h)))
 phasePower-is h e t one p q = at (decLt e (halfTurn h))
@@ -83,9 +87,17 @@ phasePower-is h e t one p q = at (decLt e (halfTurn h))
         (sym (+ℤ-idl (negℤ (pos (oneIf (eqb e (t + halfTurn h)))))))
 
 -- the same, by tests for a phase modulo 2^h
-pub phasePower-tests : (h e t : ℕ) → 1 ≤ h → e < phases h → t < halfTurn h →
+phasePower-tests : (h e t : ℕ) → 1 ≤ h → e < phases h → t < halfTurn h →
     phasePower h e t ≡ pos (oneIf (eqb e (t % phases h))) -ℤ pos (oneIf (eqb e ((t + halfTurn h) % phases h)))
 phasePower-tests h e t one p q =
     let low : t % phases h ≡ t = mod-eq-of-lt (omega (arith, phases-half h one)) in
     let high : (t + halfTurn h) % phases h ≡ t + halfTurn h = mod-eq-of-lt (omega (arith, phases-half h one)) in
     rw (low, high) (phasePower-is h e t one p q)
+
+-- how often the phase t is taken, less how often the one half a turn on
+pub sumℤ-phasePower : (h n : ℕ) (d : ℕ → ℕ) (t : ℕ) → 1 ≤ h → ((i : ℕ) → d i < phases h) → t < halfTurn h →
+    sumℤ n (λ i. phasePower h (d i) t) ≡
+    pos (sumBelow n (λ i. oneIf (eqb (d i) (t % phases h)))) -ℤ
+    pos (sumBelow n (λ i. oneIf (eqb (d i) ((t + halfTurn h) % phases h))))
+sumℤ-phasePower h n d t one inside l =
+    sumℤ-cong n _ _ (λ i _. phasePower-tests h (d i) t one (inside i) l) ∙ sumℤ-difference n _ _

@@ -1,26 +1,17 @@
--- Remainders, half a turn and differences, over plain numbers: q is a whole turn, s half of it. In order: two half
--- turns are none; half a turn changes sides in a test; a difference by two sums; half a turn at one of two
--- places; the same multiples of it on both sides of a sum.
+-- Half a turn in remainders and differences, over plain numbers: q is a whole turn, s half of it. In order: two half
+-- turns are none; half a turn changes sides in a test; a difference by two sums; half a turn at one of two places; the
+-- same multiples of it on both sides of a sum.
 -- Not here: that half a turn moves every symbol (rules' Turns), sums modulo q (range's Remainders), differences (rules'
--- Differences).
--- Assumes nothing.
+-- Differences).  Assumes nothing.
 use Prim.Native.Nat.{ℕ, zero, suc, _+_, _*_, _%_, _<_}
 use native.Mathlib.Nat.{mod-eq-of-lt, mod-add-mod, add-mod-right}
-use native.Mathlib.Decide.{ℕ-discrete}
 use native.Mathlib.Omega.{arith}
 use mathlib.Core.Path.{_≡_, sym, _∙_, ap}
 use lib.Dec.{eqb}
-use borrow.Author.Tests.{eq-eqb, ne-eqb}
 use Rattle.range.proofs.Remainders.{mod-cancel, mod-extend}
+use Rattle.range.proofs.Tests.{eqb-of-iff}
 use Rattle.rules.specs.Pair.{minus}
-use Rattle.rules.proofs.Differences.{minus-lt, minus-add}
-
--- two tests that pass together are one test
-eqb-of-iff : (a b c d : ℕ) → (a ≡ b → c ≡ d) → (c ≡ d → a ≡ b) → eqb a b ≡ eqb c d
-eqb-of-iff a b c d to from = elim (ℕ-discrete a b) [
-  | yes e ↦ eq-eqb a b e ∙ sym (eq-eqb c d (to e))
-  | no n ↦ ne-eqb a b n ∙ sym (ne-eqb c d (λ e. n (from e)))
-]
+use Rattle.rules.proofs.Differences.{minus-add, minus-of-sum}
 
 module _ (q s : ℕ) (half : q ≡ 2 * s) where
   pub half-twice : (x : ℕ) → (x + s + s) % q ≡ x % q
@@ -44,15 +35,12 @@ module _ (q s : ℕ) (half : q ≡ 2 * s) where
 pub minus-of-sums : (q s a b c d : ℕ) → 0 < q → (a + d + s) % q ≡ (b + c) % q →
     minus q (b % q) (d % q) ≡ (minus q (a % q) (c % q) + s) % q
 minus-of-sums q s a b c d p e =
-    let x = minus q (b % q) (d % q) in
-    let y = minus q (a % q) (c % q) in
-    let left : x + (d + c) ≡ x + d + c = omega arith in
-    let middle : a + d + s ≡ a + (d + s) = omega arith in
-    let right : y + c + (d + s) ≡ y + s + (d + c) = omega arith in
-    sym (mod-eq-of-lt (minus-lt q (b % q) (d % q) p)) ∙ mod-cancel q x (y + s) (d + c) p
-    (ap (λ (n : ℕ). n % q) left ∙ mod-extend q (x + d) b c (minus-add q b d p) ∙ sym e
-    ∙ ap (λ (n : ℕ). n % q) middle ∙ sym (mod-extend q (y + c) a (d + s) (minus-add q a c p))
-    ∙ ap (λ (n : ℕ). n % q) right)
+    let x : ℕ = minus q (a % q) (c % q) in
+    let f : x + s + d + c ≡ x + c + (d + s) = omega arith in
+    let g : a + (d + s) ≡ a + d + s = omega arith in
+    minus-of-sum q (x + s) b d p
+    (mod-cancel q (x + s + d) b c p
+    (ap (λ (n : ℕ). n % q) f ∙ mod-extend q (x + c) a (d + s) (minus-add q a c p) ∙ ap (λ (n : ℕ). n % q) g ∙ e))
 
 -- half a turn at one of two places moves their difference by half a turn
 pub minus-half-once : (q s a c x y : ℕ) → 0 < q → q ≡ 2 * s → x + y ≡ 1 →

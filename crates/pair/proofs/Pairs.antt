@@ -20,12 +20,12 @@ use Rattle.rules.proofs.Differences.{minus-lt}
 use Rattle.rules.proofs.Turns.{halfTurn-moves}
 
 module _ (h m : ℕ) (a b : ℕ → ℕ) where
-  pub golayPair-at : golayPair h m a b ≡ true → GolayPair h m a b
+  golayPair-at : golayPair h m a b ≡ true → GolayPair h m a b
   unfolding golayPair
   golayPair-at e u l s k r =
       eqb-true _ _ (allBelow-at (phases h) _ (fromOne-at (carriers m) (phasesAgree h (carriers m) a b) e u s l) k r)
 
-  pub golayPair-of : GolayPair h m a b → golayPair h m a b ≡ true
+  golayPair-of : GolayPair h m a b → golayPair h m a b ≡ true
   unfolding golayPair
   golayPair-of e =
       fromOne-of (carriers m) (phasesAgree h (carriers m) a b)

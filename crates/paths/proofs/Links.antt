@@ -12,8 +12,7 @@ use lib.ListN.{length}
 use Rattle.rules.specs.Path.{IsPath, headOf, lastOf, times}
 use Rattle.rules.specs.Word.{links}
 use Rattle.paths.proofs.Times.{Distinct, times-here, times-tail-le, mem-of-times, distinct-tail, distinct-head}
-use Rattle.paths.proofs.UpTo.{in-upTo}
-use Rattle.paths.proofs.Members.{isPath-isOrder, isPath-unique}
+use Rattle.paths.proofs.Members.{isPath-isOrder, isPath-within, isPath-unique}
 unfoldable pub use Rattle.paths.proofs.Pairs.{onPair}
 use Rattle.paths.proofs.Pairs.{onPair-left, onPair-right, links-swap, links-tail-le, links-absent, links-pair-le}
 use Rattle.paths.proofs.Pairs.{second-other, links-first, links-head}
@@ -45,7 +44,7 @@ not-inner x y z v r d o = third-other z x v r d (before ∙ sym after)
         (links-first x v x v r (onPair-left x v x refl) (onPair-right x v v refl))
 
 -- what is linked to one number alone is an end
-pub end-of-one : (q : List ℕ) (x y : ℕ) → Distinct q → List·Memᴰ x q → OneLink x y q → (x ≡ headOf q) ⊎ (x ≡ lastOf q)
+end-of-one : (q : List ℕ) (x y : ℕ) → Distinct q → List·Memᴰ x q → OneLink x y q → (x ≡ headOf q) ⊎ (x ≡ lastOf q)
 end-of-one [] x y d i o = absurd (List·Memᴰ·not-nil i)
 end-of-one (z ∷ []) x y d i o = inl (List·Memᴰ·eq-of-singleton i)
 end-of-one (z ∷ (w ∷ [])) x y d i o = at (List·Memᴰ·cases-cons i)
@@ -67,7 +66,7 @@ end-of-one (z ∷ (w ∷ (v ∷ r))) x y d i o =
     at (inr j) f = past (f j)
 
 -- the same pairs are linked
-abbrev pub SameLinks : List ℕ → List ℕ → Type 0
+abbrev SameLinks : List ℕ → List ℕ → Type 0
 SameLinks p q = (a b : ℕ) → a ≢ b → links (onPair a b) p ≡ links (onPair a b) q
 
 -- two lists that begin alike and have the same links go on alike, and their rests have the same links
@@ -89,7 +88,7 @@ module _ (x v y w : ℕ) (p q : List ℕ) (d : Distinct (x ∷ (v ∷ p))) (e : 
       let f : onPair a b x * onPair a b v ≡ onPair a b y * onPair a b w = rw (h, same-second) in
       omega (arith, s a b n)
 
-pub equal-of-links : (p q : List ℕ) → Distinct p → Distinct q → length p ≡ length q → headOf p ≡ headOf q →
+equal-of-links : (p q : List ℕ) → Distinct p → Distinct q → length p ≡ length q → headOf p ≡ headOf q →
     SameLinks p q → p ≡ q
 unfolding links
 equal-of-links [] [] d e l h s = refl
@@ -142,7 +141,7 @@ module _ (m : ℕ) (p q : List ℕ) (r : IsPath m p) (t : IsPath m q)
   links-same-in a b n i j = at (decLt a b) (range a i) (range b j)
     where
       range : (k : ℕ) → 1 ≤ times k p → (1 ≤ k) × (k ≤ m)
-      range k h = in-upTo m k (rw (isPath-isOrder m p r .same k) at h)
+      range k h = isPath-within m p r k (mem-of-times k p h)
 
       at : Dec (a < b) → (1 ≤ a) × (a ≤ m) → (1 ≤ b) × (b ≤ m) → links (onPair a b) p ≡ links (onPair a b) q
       at (yes l) u v = links-same-lt a b (u .0) l (v .1)

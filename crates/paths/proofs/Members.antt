@@ -1,6 +1,6 @@
 -- THE LAW of members: the paths of m are exactly the orders of 1, .., m whose first is less than their last.
 -- In order: a path is such an order; the law, each way and both; a path by its number; the elements of a path are
--- in 1..m, and no two are equal.
+-- in 1..m, as members and by place, and no two are equal.
 -- Not here: orders of any list (Orders), the order of the paths (Increasing).  Assumes nothing.
 use Prim.Native.Nat.{ℕ, zero, suc, _≤_, _<_}
 use native.Mathlib.Decide.{decLe}
@@ -53,10 +53,11 @@ pub pathAt-isPath : (m n : ℕ) → n < length (paths m) → IsPath m (pathAt m 
 unfolding pathAt
 pathAt-isPath m n h = paths-isPath m (getD (paths m) n []) (getD-mem (paths m) n [] h)
 
+pub isPath-within : (m : ℕ) (p : List ℕ) → IsPath m p → (k : ℕ) → List·Memᴰ k p → (1 ≤ k) × (k ≤ m)
+isPath-within m p r k i = in-upTo m k (rw (isPath-isOrder m p r .same k) at (times-of-mem k p i))
+
 pub isPath-in : (m : ℕ) (p : List ℕ) → IsPath m p → (i : ℕ) → i < length p → (1 ≤ getD p i 0) × (getD p i 0 ≤ m)
-isPath-in m p r i h =
-    in-upTo m (getD p i 0)
-    (rw (isPath-isOrder m p r .same (getD p i 0)) at (times-of-mem (getD p i 0) p (getD-mem p i 0 h)))
+isPath-in m p r i h = isPath-within m p r (getD p i 0) (getD-mem p i 0 h)
 
 pub isPath-unique : (m : ℕ) (p : List ℕ) → IsPath m p → Distinct p
 isPath-unique m p r k = omega (arith, isPath-isOrder m p r .same k, upTo-distinct m k)

@@ -34,7 +34,7 @@ pub onPair-other : (a b k : ℕ) → k ≢ a → k ≢ b → onPair a b k ≡ 0
 unfolding onPair
 onPair-other a b k d e = rw (ne-eqb k a d, ne-eqb k b e)
 
-pub onPair-le : (a b k : ℕ) → onPair a b k ≤ 1
+onPair-le : (a b k : ℕ) → onPair a b k ≤ 1
 unfolding onPair
 onPair-le a b k = oneIf-le (eqb k a || eqb k b)
 

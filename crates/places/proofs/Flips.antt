@@ -1,9 +1,10 @@
 -- One digit of a place, x_k, turned over. In order: the place that has it so, where the digit is 0 and where it is 1;
--- it is a place; its digits; turned over twice; two places with the same digit keep their distance; a sum over the
--- places with the digit turned over.
+-- it is a place; its digits; turned over twice; two places with the same digit x_k keep their distance, and balance; a
+-- sum over the places with the digit turned over.
 -- Not here: the two places as a first and a second (Twins), sums over any involution (range's Involutions).
 -- Assumes nothing.
 use Prim.Native.Nat.{ℕ, _+_, _-_, _^_, _≤_, _<_}
+use native.Mathlib.Decide.{ℕ-discrete}
 use native.Mathlib.Omega.{arith}
 use mathlib.Core.Path.{_≡_, sym, _∙_}
 use mathlib.Core.Logic.{_≢_}
@@ -60,6 +61,15 @@ pub flip-shift : (m k i j u : ℕ) → digit m i k ≡ digit m j k → j ≡ i +
 flip-shift m k i j u s d =
     digit-cases m i k (λ e. rw (flip-zero m k i e, flip-zero m k j (sym s ∙ e)) (omega arith))
     (λ e. rw (flip-one m k i e, flip-one m k j (sym s ∙ e)) (omega (arith, digit-one-le m k i e)))
+
+-- and balance: i and j turned over have of every digit what i turned over and j have
+pub digit-flip-balance : (m k i j r : ℕ) → k ≤ m → r ≤ m → digit m i k ≡ digit m j k →
+    digit m i r + digit m (flip m k j) r ≡ digit m (flip m k i) r + digit m j r
+digit-flip-balance m k i j r a b s = at (ℕ-discrete r k)
+  where
+    at : Dec (r ≡ k) → digit m i r + digit m (flip m k j) r ≡ digit m (flip m k i) r + digit m j r
+    at (yes e) = rw e (omega (arith, s, digit-flip-at m k i, digit-flip-at m k j))
+    at (no n) = rw (digit-flip-off m k r i a b n, digit-flip-off m k r j a b n)
 
 pub sumBelow-flip : (m k : ℕ) (f : ℕ → ℕ) → 1 ≤ k → k ≤ m →
     sumBelow (carriers m) (λ i. f (flip m k i)) ≡ sumBelow (carriers m) f

@@ -1,7 +1,7 @@
 -- Two places that differ in one digit, x_k: the first has 0 there, and the second, 2^(m-k) on, has 1. In order: the
 -- places counted in blocks; the second place of a pair is a place, and stands behind the first; the digit x_k of both;
 -- their other digits, which are the same.
--- Not here: the digits of places with one digit or two (Digits), from either place to the other (Flips).
+-- Not here: the digits of a place with one digit (Digits), from either place to the other (Flips).
 -- Assumes nothing.
 use Prim.Native.Nat.{ℕ, zero, suc, _+_, _-_, _*_, _/_, _%_, _^_, _≤_, _<_}
 use native.Mathlib.Nat.{div-lt-iff-lt-mul, le-div-iff-mul-le, add-div-right, add-comm, pow-suc}

@@ -6,16 +6,15 @@
 -- Not here: other laws of sums (Sums), sums over a square (Squares).  Assumes nothing.
 use Prim.Native.Nat.{ℕ, zero, suc, _+_, _*_, _<_}
 use native.Mathlib.Nat.{mul-zero, mul-one, mul-add}
-use native.Mathlib.Decide.{ℕ-discrete}
 use native.Mathlib.Omega.{arith}
 use mathlib.Core.Path.{_≡_, refl, sym, _∙_, ap}
 use lib.Dec.{eqb}
 use borrow.Author.Tests.{eq-eqb, ne-eqb}
 use Rattle.range.specs.Below.{sumBelow, countBelow, oneIf}
-use Rattle.range.proofs.Sums.{sumBelow-cong, sumBelow-zero, sumBelow-only, sumBelow-sum}
-use Rattle.range.proofs.Shifts.{sumBelow-mul}
+use Rattle.range.proofs.Sums.{sumBelow-cong, sumBelow-zero, sumBelow-only, sumBelow-sum, sumBelow-mul}
+use Rattle.range.proofs.Tests.{eqb-of-iff}
 
-pub sumBelow-swap : (n k : ℕ) (f : ℕ → ℕ → ℕ) →
+sumBelow-swap : (n k : ℕ) (f : ℕ → ℕ → ℕ) →
     sumBelow n (λ i. sumBelow k (λ j. f i j)) ≡ sumBelow k (λ j. sumBelow n (λ i. f i j))
 unfolding sumBelow
 sumBelow-swap zero k f = sym (sumBelow-zero k (λ _. 0) (λ _ _. refl))
@@ -42,10 +41,8 @@ sumBelow-by-values n q d f lt =
 
 module _ (n : ℕ) (σ : ℕ → ℕ) (lt : (i : ℕ) → i < n → σ i < n) (back : (i : ℕ) → i < n → σ (σ i) ≡ i) where
   eqb-involution : (i k : ℕ) → i < n → k < n → eqb (σ i) k ≡ eqb (σ k) i
-  eqb-involution i k a b = elim (ℕ-discrete (σ i) k) [
-    | yes e ↦ eq-eqb (σ i) k e ∙ sym (eq-eqb (σ k) i (ap σ (sym e) ∙ back i a))
-    | no d ↦ ne-eqb (σ i) k d ∙ sym (ne-eqb (σ k) i (λ e. d (ap σ (sym e) ∙ back k b)))
-  ]
+  eqb-involution i k a b =
+      eqb-of-iff (σ i) k (σ k) i (λ e. ap σ (sym e) ∙ back i a) (λ e. ap σ (sym e) ∙ back k b)
 
   -- k is the image of one number alone
   countBelow-image : (k : ℕ) → k < n → countBelow n (λ i. eqb (σ i) k) ≡ 1

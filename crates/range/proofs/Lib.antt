@@ -1,4 +1,5 @@
--- Laws of sums, counts, searches and lists below a number, and of sums and sizes of whole numbers.
+-- Laws of bits, products and remainders; of sums, counts, tests, searches and lists below a number; of sums and sizes
+-- of whole numbers.
 pub mod Bits
 pub mod Products
 pub mod Remainders

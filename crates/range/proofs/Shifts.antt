@@ -1,10 +1,9 @@
--- Natural numbers and whole numbers a constant apart. In order: sums of natural numbers and of their differences as
--- whole numbers; sums whose summands are multiples of a constant, are a constant apart, or add up to a constant; taking
--- the constant away again; equal differences; two numbers raised by the same constant are equal, or in order, where the
--- two from which they are raised are.
+-- Natural numbers and whole numbers a constant apart. In order: sums of natural numbers as whole numbers; two
+-- differences added; sums of differences, and of a constant; sums whose summands are a constant apart; taking the
+-- constant away again; equal differences; two numbers raised by the same constant are equal, or in order, where the two
+-- from which they are raised are.
 -- Not here: other laws of sums (Sums, SumsSigned).  Assumes nothing.
-use Prim.Native.Nat.{ℕ, zero, suc, _+_, _-_, _*_, _≤_, _<_, zero-le, suc-le-suc}
-use native.Mathlib.Nat.{suc-mul, mul-add}
+use Prim.Native.Nat.{ℕ, zero, suc, _+_, _-_, _*_, _≤_, _<_}
 use native.Mathlib.Omega.{arith}
 use mathlib.Core.Path.{_≡_, refl, sym, _∙_, ap}
 use mathlib.Core.Bool.{Bool, true, false, cond}
@@ -15,7 +14,8 @@ use lib.Signed.{leZ}
 use borrow.Author.Tests.{ltb-true, ltb-false}
 use Rattle.range.specs.Below.{sumBelow}
 use Rattle.range.specs.Signed.{sumℤ}
-use Rattle.range.proofs.SumsSigned.{+ℤ-swap, sumℤ-add, sumℤ-neg}
+use Rattle.range.proofs.Sums.{sumBelow-const}
+use Rattle.range.proofs.SumsSigned.{+ℤ-swap, sumℤ-cong, sumℤ-add, sumℤ-neg}
 
 pub sumℤ-pos : (n : ℕ) (f : ℕ → ℕ) → sumℤ n (λ i. pos (f i)) ≡ pos (sumBelow n f)
 unfolding sumℤ sumBelow
@@ -33,20 +33,14 @@ sumℤ-difference n f g =
     sym (sumℤ-add n (λ i. pos (f i)) (λ i. negℤ (pos (g i))))
     ∙ rw (sumℤ-pos n f, ← sumℤ-neg n (λ i. pos (g i)), sumℤ-pos n g)
 
-pub sumBelow-mul : (n c : ℕ) (f : ℕ → ℕ) → sumBelow n (λ i. c * f i) ≡ c * sumBelow n f
-unfolding sumBelow
-sumBelow-mul zero c f = omega arith
-sumBelow-mul (suc n) c f =
-    rw (sumBelow-mul n c (λ i. f (suc i))) (sym (mul-add c (f zero) (sumBelow n (λ i. f (suc i)))))
+pub sumℤ-const : (n c : ℕ) → sumℤ n (λ _. pos c) ≡ pos (n * c)
+sumℤ-const n c = sumℤ-pos n (λ _. c) ∙ ap pos (sumBelow-const n c)
 
 pub sumℤ-shift : (n c : ℕ) (f g : ℕ → ℤ) → ((i : ℕ) → i < n → f i ≡ pos c +ℤ g i) → sumℤ n f ≡ pos (n * c) +ℤ sumℤ n g
-unfolding sumℤ
-sumℤ-shift zero c f g e = ap pos (omega arith)
-sumℤ-shift (suc n) c f g e =
-    let rest = sumℤ-shift n c (λ i. f (suc i)) (λ i. g (suc i)) (λ i h. e (suc i) (suc-le-suc h)) in
-    rw (e zero (suc-le-suc zero-le), rest)
-    (+ℤ-swap (pos c) (g zero) (pos (n * c)) (sumℤ n (λ i. g (suc i)))
-    ∙ ap (λ (t : ℕ). pos t +ℤ (g zero +ℤ sumℤ n (λ i. g (suc i)))) (omega (arith, suc-mul n c)))
+sumℤ-shift n c f g e =
+    sumℤ-cong n f (λ i. pos c +ℤ g i) e
+    ∙ sym (sumℤ-add n (λ _. pos c) g)
+    ∙ ap (λ z. z +ℤ sumℤ n g) (sumℤ-const n c)
 
 -- summands a natural number below the constant
 pub sumℤ-less : (n c : ℕ) (f : ℕ → ℤ) (d : ℕ → ℕ) → ((i : ℕ) → i < n → f i ≡ pos c -ℤ pos (d i)) →
@@ -54,13 +48,6 @@ pub sumℤ-less : (n c : ℕ) (f : ℕ → ℤ) (d : ℕ → ℕ) → ((i : ℕ)
 sumℤ-less n c f d e =
     sumℤ-shift n c f (λ i. negℤ (pos (d i))) e
     ∙ ap (λ z. pos (n * c) +ℤ z) (sym (sumℤ-neg n (λ i. pos (d i))) ∙ ap negℤ (sumℤ-pos n d))
-
-pub sumBelow-pairs : (n c : ℕ) (f g : ℕ → ℕ) → ((i : ℕ) → i < n → f i + g i ≡ c) → sumBelow n f + sumBelow n g ≡ n * c
-unfolding sumBelow
-sumBelow-pairs zero c f g e = omega arith
-sumBelow-pairs (suc n) c f g e =
-    let rest = sumBelow-pairs n c (λ i. f (suc i)) (λ i. g (suc i)) (λ i h. e (suc i) (suc-le-suc h)) in
-    omega (arith, e zero (suc-le-suc zero-le), rest, suc-mul n c)
 
 pub shift-back : (a b : ℕ) (z : ℤ) → pos a ≡ pos b +ℤ z → z ≡ pos a -ℤ pos b
 shift-back a b z e = rw (e, +ℤ-comm (pos b) z) (sym (+ℤ-negℤ-cancel z (pos b)))

@@ -1,7 +1,7 @@
 -- Sums over the pairs of numbers below n, told by how far the two numbers of a pair are apart.
 -- Defines:  shifts n f    the sum of f over the pairs i, i + u below n: for each u, over i
--- In order: the first row; a square and its diagonal are its two halves; two halves, and two squares, that differ only
--- by their diagonals.
+-- In order: the first row; a square and its diagonal are its two halves; shift 0; two halves, and two squares, that
+-- differ only by their diagonals.
 -- Not here: sums of sums whose order is changed (Involutions).  Assumes nothing.
 use Prim.Native.Nat.{ℕ, zero, suc, _+_, _-_, _≤_, _<_, suc-le-suc, zero-le}
 use native.Mathlib.Nat.{zero-add, add-zero, suc-add, sub-zero, sub-self}

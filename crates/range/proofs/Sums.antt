@@ -1,13 +1,15 @@
--- Laws of sumBelow and countBelow. In order: one more summand at the end; two parts; equal summands; zeros; equal
--- summands but one, and zeros but one; two sums as one; a bound from above, and from below; the same of counts; one
--- turn of a loop that adds up; what lies below the whole sum.
+-- Laws of sumBelow and countBelow. In order: one more summand at the end; two parts; equal summands; a constant;
+-- zeros; equal summands but one, and zeros but one; two sums as one, and summands that add up to a constant; multiples
+-- of a constant; greater summands; a bound from above, and from below; the same of counts; one turn of a loop that adds
+-- up; what lies below the whole sum.
 -- Not here: sums of sums, and over an involution (Involutions), tests and searches (Tests), lists (Lists).
 -- Assumes nothing.
 use Prim.Native.Nat.{ℕ, zero, suc, _+_, _*_, _≤_, _<_, zero-le, suc-le-suc}
-use native.Mathlib.Nat.{zero-add, zero-mul, suc-add, le-refl, suc-mul, not-suc-le-zero, le-of-suc-le-suc}
+use native.Mathlib.Nat.{zero-add, zero-mul, mul-zero, mul-add, suc-add, suc-mul, le-refl, not-suc-le-zero}
+use native.Mathlib.Nat.{le-of-suc-le-suc}
 use native.Mathlib.Numerals.{add-one}
 use native.Mathlib.Omega.{arith}
-use mathlib.Core.Path.{_≡_, refl}
+use mathlib.Core.Path.{_≡_, refl, sym, _∙_}
 use mathlib.Core.Logic.{_≢_}
 use mathlib.Core.Bool.{Bool, true, false}
 use Rattle.range.specs.Below.{sumBelow, countBelow, oneIf}
@@ -30,12 +32,13 @@ sumBelow-cong (suc n) f g e =
     let rest = sumBelow-cong n (λ i. f (suc i)) (λ i. g (suc i)) (λ i h. e (suc i) (suc-le-suc h)) in
     omega (arith, e zero (suc-le-suc zero-le), rest)
 
-pub sumBelow-zero : (n : ℕ) (f : ℕ → ℕ) → ((i : ℕ) → i < n → f i ≡ 0) → sumBelow n f ≡ 0
+pub sumBelow-const : (n c : ℕ) → sumBelow n (λ _. c) ≡ n * c
 unfolding sumBelow
-sumBelow-zero zero f e = refl
-sumBelow-zero (suc n) f e =
-    let rest = sumBelow-zero n (λ i. f (suc i)) (λ i h. e (suc i) (suc-le-suc h)) in
-    omega (arith, e zero (suc-le-suc zero-le), rest)
+sumBelow-const zero c = sym (zero-mul c)
+sumBelow-const (suc n) c = omega (arith, sumBelow-const n c, suc-mul n c)
+
+pub sumBelow-zero : (n : ℕ) (f : ℕ → ℕ) → ((i : ℕ) → i < n → f i ≡ 0) → sumBelow n f ≡ 0
+sumBelow-zero n f e = sumBelow-cong n f (λ _. 0) e ∙ sumBelow-const n 0 ∙ mul-zero n
 
 -- two sums that differ at k alone
 pub sumBelow-but-one : (n k : ℕ) (f g : ℕ → ℕ) → k < n → ((i : ℕ) → i < n → i ≢ k → f i ≡ g i) →
@@ -60,20 +63,28 @@ unfolding sumBelow
 sumBelow-sum zero f g = refl
 sumBelow-sum (suc n) f g = omega (arith, sumBelow-sum n (λ i. f (suc i)) (λ i. g (suc i)))
 
+pub sumBelow-pairs : (n c : ℕ) (f g : ℕ → ℕ) → ((i : ℕ) → i < n → f i + g i ≡ c) → sumBelow n f + sumBelow n g ≡ n * c
+sumBelow-pairs n c f g e = sumBelow-sum n f g ∙ sumBelow-cong n (λ i. f i + g i) (λ _. c) e ∙ sumBelow-const n c
+
+pub sumBelow-mul : (n c : ℕ) (f : ℕ → ℕ) → sumBelow n (λ i. c * f i) ≡ c * sumBelow n f
+unfolding sumBelow
+sumBelow-mul zero c f = omega arith
+sumBelow-mul (suc n) c f =
+    rw (sumBelow-mul n c (λ i. f (suc i))) (sym (mul-add c (f zero) (sumBelow n (λ i. f (suc i)))))
+
+pub sumBelow-mono : (n : ℕ) (f g : ℕ → ℕ) → ((i : ℕ) → i < n → f i ≤ g i) → sumBelow n f ≤ sumBelow n g
+unfolding sumBelow
+sumBelow-mono zero f g h = zero-le
+sumBelow-mono (suc n) f g h =
+    let rest = sumBelow-mono n (λ i. f (suc i)) (λ i. g (suc i)) (λ i l. h (suc i) (suc-le-suc l)) in
+    omega (arith, h zero (suc-le-suc zero-le), rest)
+
 -- a bound on each summand bounds the sum
 pub sumBelow-le : (n b : ℕ) (f : ℕ → ℕ) → ((i : ℕ) → i < n → f i ≤ b) → sumBelow n f ≤ n * b
-unfolding sumBelow
-sumBelow-le zero b f h = zero-le
-sumBelow-le (suc n) b f h =
-    let rest = sumBelow-le n b (λ i. f (suc i)) (λ i l. h (suc i) (suc-le-suc l)) in
-    omega (arith, h zero (suc-le-suc zero-le), rest, suc-mul n b)
+sumBelow-le n b f h = rw (← (sumBelow-const n b)) (sumBelow-mono n f (λ _. b) h)
 
 pub sumBelow-ge : (n b : ℕ) (f : ℕ → ℕ) → ((i : ℕ) → i < n → b ≤ f i) → n * b ≤ sumBelow n f
-unfolding sumBelow
-sumBelow-ge zero b f h = omega (arith, zero-mul b)
-sumBelow-ge (suc n) b f h =
-    let rest = sumBelow-ge n b (λ i. f (suc i)) (λ i l. h (suc i) (suc-le-suc l)) in
-    omega (arith, h zero (suc-le-suc zero-le), rest, suc-mul n b)
+sumBelow-ge n b f h = rw (← (sumBelow-const n b)) (sumBelow-mono n (λ _. b) f h)
 
 pub countBelow-suc : (n : ℕ) (f : ℕ → Bool) → countBelow (suc n) f ≡ countBelow n f + oneIf (f n)
 unfolding countBelow

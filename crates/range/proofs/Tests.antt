@@ -1,6 +1,6 @@
--- Laws of tests, and of allBelow and firstBelow. In order: below and at least; both sides of a conjunction, and of a
--- disjunction that fails; a test not passed; a claim about all below n, one more; all, from each place, at each place,
--- refuted; the first, found, not found, and back.
+-- Laws of tests, and of allBelow and firstBelow. In order: below and at least; tests that are passed together; both
+-- sides of a conjunction, and of a disjunction that fails; a test not passed; a claim about all below n, one more; all,
+-- from each place, at each place, refuted; the first, found, not found, and back.
 -- Not here: sums and counts (Sums), lists (Lists).  Assumes nothing.
 use Prim.Native.Nat.{ℕ, zero, suc, _+_, _<_, zero-le, suc-le-suc}
 use native.Mathlib.Nat.{not-suc-le-zero, le-of-suc-le-suc}
@@ -8,9 +8,10 @@ use native.Mathlib.Decide.{ℕ-discrete}
 use native.Mathlib.Omega.{arith}
 use mathlib.Core.Path.{_≡_, refl, sym, _∙_, ap, subst}
 use mathlib.Core.Bool.{Bool, true, false, not, _&&_, _||_, false≢true, Bool·not-not}
+use mathlib.Core.Logic.{_↔_}
 use mathlib.Core.Option.{Option, none, some}
-use lib.Dec.{leb, ltb}
-use borrow.Author.Tests.{leb-true, leb-false, le-ltb, lt-ltb}
+use lib.Dec.{leb, ltb, eqb}
+use borrow.Author.Tests.{leb-true, leb-false, le-ltb, lt-ltb, eqb-true, eq-eqb}
 use Rattle.range.specs.Below.{allBelow, firstBelow, zeroOr}
 
 -- below is not at least
@@ -23,6 +24,16 @@ ltb-not-leb a b = go (leb b a) refl
 
 pub leb-not-ltb : (a b : ℕ) → leb a b ≡ not (ltb b a)
 leb-not-ltb a b = sym (Bool·not-not (leb a b)) ∙ ap not (sym (ltb-not-leb b a))
+
+-- two tests that are passed together are one test
+pub bool-of-iff : (a b : Bool) → ((a ≡ true) ↔ (b ≡ true)) → a ≡ b
+bool-of-iff true b e = sym (e .0 refl)
+bool-of-iff false true e = e .1 refl
+bool-of-iff false false e = refl
+
+pub eqb-of-iff : (a b c d : ℕ) → (a ≡ b → c ≡ d) → (c ≡ d → a ≡ b) → eqb a b ≡ eqb c d
+eqb-of-iff a b c d to from =
+    bool-of-iff (eqb a b) (eqb c d) (λ e. eq-eqb c d (to (eqb-true a b e)), λ e. eq-eqb a b (from (eqb-true c d e)))
 
 -- both sides of a conjunction
 pub and-left : (a b : Bool) → (a && b) ≡ true → a ≡ true
@@ -89,7 +100,7 @@ firstBelow-none (suc n) f e =
     rw (e zero (suc-le-suc zero-le), firstBelow-none n (λ k. f (suc k)) (λ i h. e (suc i) (suc-le-suc h)))
 
 -- what a search tells, whichever way it ends
-pub data Found (n : ℕ) (f : ℕ → Bool) : Option ℕ → Type 0 where
+data Found (n : ℕ) (f : ℕ → Bool) : Option ℕ → Type 0 where
   at : (i : ℕ) → i < n → f i ≡ true → ((j : ℕ) → j < i → f j ≡ false) → Found n f (some i)
   nowhere : ((i : ℕ) → i < n → f i ≡ false) → Found n f none
 
@@ -107,7 +118,7 @@ found-step n f false (some i) e (at k h p b) = at (suc k) (suc-le-suc h) p (λ j
     before zero l = e
     before (suc j) l = b j (le-of-suc-le-suc l)
 
-pub found : (n : ℕ) (f : ℕ → Bool) → Found n f (firstBelow n f)
+found : (n : ℕ) (f : ℕ → Bool) → Found n f (firstBelow n f)
 unfolding firstBelow
 found zero f = nowhere (λ i h. absurd (not-suc-le-zero h))
 found (suc n) f = found-step n f (f zero) (firstBelow n (λ i. f (suc i))) refl (found n (λ i. f (suc i)))

@@ -2,7 +2,7 @@
 -- one coefficient more; its bounds; the next path; a word shows its own label; the test of a message; the message
 -- that has a word, and where no message has it.  Assumes nothing.
 use Prim.Native.Nat.{ℕ, zero, suc, _+_, _-_, _*_, _^_, _≤_, _<_}
-use native.Mathlib.Nat.{mod-lt, zero-mul, add-mul, one-mul, lt-irrefl, pow-zero, pow-suc, le-refl, lt-trans}
+use native.Mathlib.Nat.{zero-mul, add-mul, one-mul, lt-irrefl, pow-zero, pow-suc, le-refl, lt-trans}
 use native.Mathlib.Nat.{lt-of-lt-of-le, mul-le-mul-left}
 use native.Mathlib.Numerals.{add-one}
 use native.Mathlib.Omega.{arith}
@@ -27,6 +27,7 @@ use Rattle.rules.specs.Pair.{minus}
 use Rattle.rules.specs.Word.{symbolAt}
 use Rattle.rules.specs.Table.{messageWith}
 use Rattle.rules.proofs.Range.{InRange, inShape-range, range-inM, coefficientBits-le, mostCoefficientBits}
+use Rattle.rules.proofs.Differences.{minus-lt}
 use Rattle.places.proofs.Digits.{one-lt}
 use Rattle.words.proofs.Labels.{phases-pow, numberOf, numberOf-lt, numberOf-back, labelPath-lt, labelOf-lt}
 use Rattle.words.proofs.Labels.{messageOf-labelOf}
@@ -38,8 +39,8 @@ use Rattle.distances.proofs.Inject.{wordOf-inj}
 use Rattle.reader.specs.Shown.{Word, shown, shownUpTo, lowOf, labelWith}
 
 pub shown-lt : (h m : ℕ) (w : List ℕ) (k : ℕ) → shown h m w k < phases h
-unfolding shown minus
-shown-lt h m w k = mod-lt _ (pow-pos h)
+unfolding shown
+shown-lt h m w k = minus-lt (phases h) (symbolAt w (2 ^ (m - k))) (symbolAt w 0) (pow-pos h)
 
 shownUpTo-is : (h m : ℕ) (w : List ℕ) (k c0 : ℕ) → shownUpTo h m w k * phases h + c0 ≡ numberOf h k 0 (shown h m w) c0
 unfolding shownUpTo numberOf

@@ -10,13 +10,8 @@ use mathlib.Core.Bool.{Bool, true, false, not, false≢true, Bool-set}
 use mathlib.Core.Logic.{_≢_, _↔_, ∥∥₁-elim, ∥∥₁-map}
 use lib.Dec.{T, T-not}
 use Rattle.range.specs.Below.{allBelow}
-use Rattle.range.proofs.Tests.{allBelow-at}
+use Rattle.range.proofs.Tests.{bool-of-iff, allBelow-at}
 use Rattle.rules.specs.Best.{Best}
-
-bool-of-iff : (a b : Bool) → ((a ≡ true) ↔ (b ≡ true)) → a ≡ b
-bool-of-iff true b e = sym (e .0 refl)
-bool-of-iff false true e = e .1 refl
-bool-of-iff false false e = refl
 
 module _ {X : Type 0} (n : ℕ) (noBetter : X → X → Bool) (value : ℕ → X) where
   best-le : (l k : ℕ) (v : X) (s t : Bool) → Best n noBetter value l v s → Best n noBetter value k v t → l ≤ k

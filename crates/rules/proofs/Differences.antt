@@ -1,9 +1,9 @@
 -- Differences modulo q: rules' minus. In order: they lie below q; by the order of the two numbers; of equal numbers
--- none, and of no others; by way of a third number; the way back; a difference and what was taken away, and a
--- difference from such a sum.
+-- none; a difference and what was taken away; of no other numbers none; by way of a third number; the way back; of the
+-- remainders of any two numbers: a difference and what was taken away, and a difference from such a sum.
 -- Not here: sums modulo q (range's Remainders), half a turn (Turns).  Assumes nothing.
 use Prim.Native.Nat.{ℕ, _+_, _-_, _%_, _≤_, _<_}
-use native.Mathlib.Nat.{mod-lt, mod-eq-of-lt, mod-mod, mod-add-mod, add-mod, add-mod-mod, add-mod-right}
+use native.Mathlib.Nat.{zero-add, mod-lt, mod-eq-of-lt, mod-add-mod, add-mod, add-mod-mod, add-mod-right}
 use native.Mathlib.Decide.{decLt}
 use native.Mathlib.Omega.{arith}
 use mathlib.Core.Path.{_≡_, sym, _∙_, ap}
@@ -27,12 +27,14 @@ minus-of-lt q a b l p = mod-eq-of-lt (omega arith)
 pub minus-self : (q a : ℕ) → a < q → minus q a a ≡ 0
 minus-self q a p = omega (arith, minus-of-le q a a (omega arith) p)
 
+pub minus-add-of-lt : (q a b : ℕ) → a < q → b < q → (minus q a b + b) % q ≡ a
+unfolding minus
+minus-add-of-lt q a b p r =
+    let e : a + (q - b) + b ≡ a + q = omega arith in
+    mod-add-mod (a + (q - b)) q b ∙ rw (e, add-mod-right a q) (mod-eq-of-lt p)
+
 pub eq-of-minus : (q a b : ℕ) → a < q → b < q → minus q a b ≡ 0 → a ≡ b
-eq-of-minus q a b p r e = at (decLt a b)
-  where
-    at : Dec (a < b) → a ≡ b
-    at (yes l) = absurd (omega (arith, e, minus-of-lt q a b l (omega arith)))
-    at (no n) = omega (arith, e, minus-of-le q a b (omega arith) p)
+eq-of-minus q a b p r e = sym (minus-add-of-lt q a b p r) ∙ rw (e, zero-add b) (mod-eq-of-lt r)
 
 -- by way of b
 pub minus-through : (q a b c : ℕ) → b < q → minus q a c ≡ (minus q a b + minus q b c) % q
@@ -53,14 +55,10 @@ minus-back q a b p r = at (decLt a b)
         let e : q - minus q a b ≡ b + (q - a) = omega (arith, minus-of-le q a b (omega arith) p) in
         rw (e, minus)
 
--- a difference and what was taken away
 pub minus-add : (q a b : ℕ) → 0 < q → (minus q (a % q) (b % q) + b) % q ≡ a % q
-unfolding minus
 minus-add q a b p =
-    let e : a % q + (q - b % q) + b % q ≡ a % q + q = omega (arith, mod-lt b p) in
-    mod-add-mod (a % q + (q - b % q)) q b
-    ∙ sym (add-mod-mod (a % q + (q - b % q)) b q)
-    ∙ rw (e, add-mod-right, mod-mod)
+    sym (add-mod-mod (minus q (a % q) (b % q)) b q)
+    ∙ minus-add-of-lt q (a % q) (b % q) (mod-lt a p) (mod-lt b p)
 
 -- what gives a with b is a - b
 pub minus-of-sum : (q x a b : ℕ) → 0 < q → (x + b) % q ≡ a % q → minus q (a % q) (b % q) ≡ x % q

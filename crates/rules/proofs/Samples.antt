@@ -1,6 +1,6 @@
 -- Small sums done by hand, of the rules that no starred case reaches: the spectrum and its stages, what a four-phase
--- symbol hears, Lee distance, the unstarred hard word of 01, the powers of a phase, autocorrelations, and envelope
--- powers. What a transform leaves and refuses: AreaSamples.  Assumes nothing.
+-- symbol hears, Lee distance, the unstarred hard word of 01, the powers of a phase, autocorrelations, envelope powers,
+-- and clean soft values. What a transform leaves and refuses: AreaSamples.  Assumes nothing.
 use Prim.Native.Nat.{ℕ, suc}
 use mathlib.Core.Path.{_≡_, refl}
 use mathlib.Core.List.{[], _∷_, flatMap}
@@ -14,7 +14,7 @@ use Rattle.rules.specs.Word.{links, formAt, wordAt, symbolAt}
 use Rattle.rules.specs.Pair.{minus}
 use Rattle.rules.specs.Autocorrelation.{turned, phasePower, autocorrelation}
 use Rattle.rules.specs.Envelope.{phaseAt, envelopePower}
-use Rattle.rules.specs.Soft.{heard}
+use Rattle.rules.specs.Soft.{heard, cleanAt, clean}
 use Rattle.rules.specs.Distance.{hamming, leeOf, lee, distance}
 use Rattle.rules.specs.Spectrum.{shared, spectrumAt, stage, stages}
 
@@ -102,3 +102,14 @@ partner-eighth : listBelow 4 (envelopePower 2 4 (symbolAt (0 ∷ 0 ∷ 2 ∷ 0 �
     pos 4 ∷ negsuc 1 ∷ pos 0 ∷ pos 2 ∷ []
 unfolding listBelow envelopePower phaseAt sumℤ minus phasePower turned
 partner-eighth = refl
+
+-- symbols 0 and 1 at moment 1/4: the second carrier has turned on by a quarter, to 1 + i i = 0, and not back, to 1 + 1
+moment-turns-on : listBelow 2 (envelopePower 2 2 (symbolAt (0 ∷ 1 ∷ [])) 2 1) ≡ pos 0 ∷ pos 0 ∷ []
+unfolding listBelow envelopePower phaseAt sumℤ minus phasePower turned
+moment-turns-on = refl
+
+-- the known word 3 1 0 0 at amplitude 3, with no noise: -3 j, 3 j, 3, 3, real part before imaginary
+clean-four : clean 2 2 3 (3 ∷ 1 ∷ 0 ∷ 0 ∷ []) ≡
+    pos 0 ∷ negsuc 2 ∷ pos 0 ∷ pos 3 ∷ pos 3 ∷ pos 0 ∷ pos 3 ∷ pos 0 ∷ []
+unfolding clean cleanAt listBelow
+clean-four = refl

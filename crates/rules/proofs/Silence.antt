@@ -3,9 +3,9 @@
 -- the best of equals.
 -- Assumes nothing.
 use Prim.Native.Nat.{ℕ, zero, suc, _+_, _*_, _<_, _≤_}
-use native.Mathlib.Nat.{pow-le-pow-right, lt-of-lt-of-le, le-refl, mul-le-mul}
+use native.Mathlib.Nat.{mul-zero, pow-le-pow-right, lt-of-lt-of-le, le-refl, mul-le-mul}
 use native.Mathlib.Omega.{arith}
-use mathlib.Core.Path.{_≡_, refl}
+use mathlib.Core.Path.{_≡_, refl, _∙_, ap}
 use mathlib.Core.Bool.{Bool, true, false, cond}
 use mathlib.Core.List.{List}
 use lib.Dec.{eqb, lit≤}
@@ -13,6 +13,8 @@ use lib.IntN.{ℤ, pos}
 use lib.ListN.{replicate}
 use lib.Signed.{leZ}
 use Rattle.range.specs.Signed.{sumℤ, negatedIf, entry}
+use Rattle.range.proofs.SumsSigned.{sumℤ-cong}
+use Rattle.range.proofs.Shifts.{sumℤ-const}
 use Rattle.rules.specs.Shape.{carriers, messageBits}
 use Rattle.rules.specs.Label.{labels, labelOf}
 use Rattle.rules.specs.Word.{wordAt}
@@ -51,9 +53,7 @@ heard-zero h n i s =
     (heardFour-zero s))
 
 sumℤ-zero : (n : ℕ) (f : ℕ → ℤ) → ((i : ℕ) → f i ≡ pos 0) → sumℤ n f ≡ pos 0
-unfolding sumℤ
-sumℤ-zero zero f e = refl
-sumℤ-zero (suc n) f e = rw (e zero, sumℤ-zero n (λ i. f (suc i)) (λ i. e (suc i)))
+sumℤ-zero n f e = sumℤ-cong n f (λ _. pos 0) (λ i _. e i) ∙ sumℤ-const n 0 ∙ ap pos (mul-zero n)
 
 correlation-zero : (h m n l : ℕ) → correlation h m (zeros n) l ≡ pos 0
 unfolding correlation

@@ -3,11 +3,13 @@
 -- Let ξ be the phase of 2^h steps to a turn. C_a(u) is the sum over i of ξ to the power a_i - a_(i+u). Half a turn is
 -- -1, and the first 2^(h-1) powers of ξ have no whole-number relation; so a sum of powers of ξ is a polynomial in x
 -- modulo x^(2^(h-1)) + 1, told by one whole number for each of 1, x, .., x^(2^(h-1)-1): its coordinates.
+-- Coordinates from 2^(h-1) on have no meaning. A shift of -u gives the conjugate of the autocorrelation at u, so that
+-- shifts from 1 to N - 1 are all that is to be asked.
 -- Defines:  turned h p              the coordinates of x times p: each goes one on, and the last comes back negated
 --           phasePower h e          the coordinates of x^e, which begins with 1 and is turned e times
 --           autocorrelation h n a u the coordinates of C_a(u), for the n symbols of word a
 --           Cancel h m a b          C_a(u) + C_b(u) = 0 at each shift u from 1 to N - 1
--- Laws: crate golay.  Assumes nothing: these are definitions.
+-- Laws: crate golay; samples: proofs/Samples.antt.  Assumes nothing: these are definitions.
 use Prim.Native.Nat.{ℕ, zero, suc, _+_, _-_, _≤_, _<_}
 use mathlib.Core.Path.{_≡_}
 use lib.IntN.{ℤ, pos, negℤ, _+ℤ_}

@@ -3,7 +3,7 @@
 --           leeOf h d           the smaller of d and 2^h - d
 --           lee h n a b         the sum over places of leeOf of the difference modulo 2^h
 --           distance h n a b    differing places for h = 1, else Lee distance
--- Assumes nothing: these are definitions.
+-- Laws: crates signals (as distances) and distances (between words).  Assumes nothing: these are definitions.
 use Prim.Native.Nat.{ℕ, _-_, min}
 use mathlib.Core.Bool.{cond, not}
 use lib.Dec.{eqb}

@@ -5,7 +5,7 @@
 -- Defines:  phaseAt h a r s i           the phase of carrier i at moment s / 2^r, of 2^r
 --           envelopePower h n a r s     the coordinates of P_a at that moment: the sum over i and j of the phase of
 --                                       carrier i less that of carrier j
--- Laws: crate golay.  Assumes nothing: these are definitions.
+-- Laws: crate golay; samples: proofs/Samples.antt.  Assumes nothing: these are definitions.
 use Prim.Native.Nat.{ℕ, _+_, _-_, _*_, _%_, _^_}
 use lib.IntN.{ℤ}
 use Rattle.range.specs.Signed.{sumℤ}

@@ -1,5 +1,6 @@
 -- Soft values and the correlation with a word: 01 "What the receiver hears".
--- Octary soft decoding is refused 6 before any of these is asked; for every h but 1 they say what h = 2 says.
+-- Octary soft decoding is refused 6 before any of these is asked: heard and correlation say for every h but 1 what they
+-- say for h = 2, and clean is meant for h = 1 and 2.
 -- Defines:  softLength h m         N values for h = 1, 2N for h = 2
 --           heardTwo y s           what symbol s adds for h = 1: y, negated for symbol 1
 --           heardFour re im s      for h = 2: re, im, -re, -im for symbols 0, 1, 2, 3, which stand at 1, j, -1, -j
@@ -8,7 +9,7 @@
 --           cleanAt h a w j        soft value j of symbols w at amplitude a, with no noise
 --           clean h m a w          the soft values of symbols w at amplitude a, with no noise; unit soft values are
 --                                  those at amplitude 1
--- Assumes nothing: these are definitions.
+-- Laws: crate signals.  Assumes nothing: these are definitions.
 use Prim.Native.Nat.{ℕ, zero, suc, _+_, _*_, _/_, _%_}
 use mathlib.Core.Bool.{cond}
 use mathlib.Core.List.{List}

@@ -6,7 +6,7 @@
 --           partnerAt h m l i  the symbol at place i of its partner
 --           wordOf h m g, partnerOf h m g    the N symbols for message number g
 --           symbolAt w i       the symbol at place i of a list of symbols
--- Laws: crate words.  Assumes nothing: these are definitions.
+-- Laws: crates words, distances and golay.  Assumes nothing: these are definitions.
 use Prim.Native.Nat.{ℕ, suc, _+_, _*_, _%_}
 use mathlib.Core.List.{List, [], _∷_}
 use lib.ListN.{getD}

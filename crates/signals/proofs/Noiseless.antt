@@ -2,7 +2,7 @@
 -- word that agrees with the symbols, and with one that does not; so the word sent has the greatest, alone.
 -- Not here: the correlation of soft values with no noise (Units).  Assumes nothing.
 use Prim.Native.Nat.{ℕ, _+_, _-_, _*_, _/_, _%_, _≤_, _<_, zero-le}
-use native.Mathlib.Nat.{mod-lt, mul-zero, mul-pos, le-refl, le-trans, le-suc, le-div-iff-mul-le}
+use native.Mathlib.Nat.{mul-zero, mul-pos, le-refl, le-div-iff-mul-le}
 use native.Mathlib.Decide.{decLt}
 use native.Mathlib.Omega.{arith}
 use mathlib.Core.Path.{_≡_, sym, _∙_, subst}
@@ -10,20 +10,21 @@ use mathlib.Core.Bool.{Bool, true, false, cond}
 use mathlib.Core.List.{List}
 use mathlib.Core.Logic.{_≢_}
 use lib.Dec.{T, eqb}
-use lib.IntN.{ℤ, pos, negsuc, negℤ, natAbs, _+ℤ_, _-ℤ_, +ℤ-idr, +ℤ-comm, -ℤ-+ℤ-cancel, pos-+ℤ-pos}
+use lib.IntN.{ℤ, pos, negℤ, natAbs, _+ℤ_, _-ℤ_, +ℤ-idr, +ℤ-comm, -ℤ-+ℤ-cancel, pos-+ℤ-pos}
 use lib.ListN.{length, List·getD-eq-default}
 use lib.Pow.{pow-pos, pow-mono}
-use lib.Signed.{mag, leZ, ≤ℤ-refl}
+use lib.Signed.{leZ, ≤ℤ-refl}
 use Rattle.range.specs.Signed.{entry}
 use Rattle.range.proofs.Lists.{length-listBelow, listBelow-at}
 use Rattle.range.proofs.Shifts.{shift-equal, shift-le}
 use Rattle.range.proofs.Sizes.{natAbs-neg}
 use Rattle.rules.specs.Shape.{phases, halfTurn, carriers}
 use Rattle.rules.specs.Label.{labels}
-use Rattle.rules.specs.Word.{wordAt, symbolAt, formAt}
+use Rattle.rules.specs.Word.{wordAt, symbolAt}
 use Rattle.rules.specs.Distance.{distance}
 use Rattle.rules.specs.Soft.{softLength, correlation, cleanAt, clean}
 use Rattle.rules.specs.Best.{Best, Greatest}
+use Rattle.rules.proofs.Symbols.{wordAt-lt}
 use Rattle.rules.proofs.BestLaws.{best-alone}
 use Rattle.signals.proofs.Metric.{distance-zero-of-agree}
 use Rattle.signals.proofs.Units.{correlation-clean}
@@ -45,7 +46,7 @@ cleanAt-size h a w j =
     amplitude-size (eqb x r) (eqb x (r + halfTurn h)) a
 
 -- every value lies from -a to a
-clean-size : (h m a : ℕ) (w : List ℕ) (j : ℕ) → natAbs (entry (clean h m a w) j) ≤ a
+pub clean-size : (h m a : ℕ) (w : List ℕ) (j : ℕ) → natAbs (entry (clean h m a w) j) ≤ a
 unfolding clean
 clean-size h m a w j = at (decLt j (softLength h m))
   where
@@ -54,17 +55,6 @@ clean-size h m a w j = at (decLt j (softLength h m))
     at (no n) =
         let b : length (clean h m a w) ≤ j = omega (arith, length-clean h m a w) in
         rw (List·getD-eq-default (clean h m a w) (pos 0) b) zero-le
-
-mag-le-natAbs : (z : ℤ) → mag z ≤ natAbs z
-mag-le-natAbs (pos n) = le-refl n
-mag-le-natAbs (negsuc n) = le-suc n
-
--- from -32,767 to 32,767, so that sixteen bits hold each value
-pub clean-fits : (h m a : ℕ) (w : List ℕ) → a ≤ 32767 → (j : ℕ) →
-    (natAbs (entry (clean h m a w) j) ≤ 32767) × (mag (entry (clean h m a w) j) < 32768)
-clean-fits h m a w small j =
-    let size : natAbs (entry (clean h m a w) j) ≤ a = clean-size h m a w j in
-    (le-trans size small, omega (arith, mag-le-natAbs (entry (clean h m a w) j)))
 
 -- what is left once something is taken away is no better than the whole, and not equal to it
 less-worse : (n e : ℕ) → 1 ≤ e → T (leZ (pos n -ℤ pos e) (pos n)) × (pos n -ℤ pos e ≢ pos n)
@@ -88,7 +78,7 @@ module _ (h m a : ℕ) (w : List ℕ) (one : 1 ≤ h) (two : h ≤ 2)
   correlation-of-agree l agree =
       let c : ℕ = a * (2 / halfTurn h) in
       let same : distance h (carriers m) (symbolAt w) (wordAt h m l) ≡ 0 =
-      distance-zero-of-agree h (carriers m) one (symbolAt w) (wordAt h m l) inside
+      distance-zero-of-agree h (carriers m) (symbolAt w) (wordAt h m l) inside
       (λ i b. subst (λ (x : ℕ). x < phases h) (agree i b) (inside i b)) agree in
       correlation-clean h m a w l one two inside
       ∙ rw (same, mul-zero c) (+ℤ-idr (pos (carriers m * a)))
@@ -106,11 +96,10 @@ pub greatest-of-clean : (h m a : ℕ) (w : List ℕ) (l : ℕ) → 1 ≤ h → h
     ((i : ℕ) → i < carriers m → symbolAt w i ≡ wordAt h m l i) →
     ((k : ℕ) → k < labels h m → k ≢ l → 1 ≤ distance h (carriers m) (symbolAt w) (wordAt h m k)) →
     Greatest h m (clean h m a w) l (pos (carriers m * a)) false
-unfolding wordAt
 greatest-of-clean h m a w l one two some inside agree apart =
     let c : ℕ → ℤ = correlation h m (clean h m a w) in
     let below : (i : ℕ) → i < carriers m → symbolAt w i < phases h =
-    λ i b. rw (agree i b) (mod-lt (formAt h m l i) (pow-pos h)) in
+    λ i b. rw (agree i b) (wordAt-lt h m l i) in
     let whole : c l ≡ pos (carriers m * a) = correlation-of-agree h m a w one two below l agree in
     subst (λ v. Best (labels h m) leZ c l v false) whole (best-alone (labels h m) leZ c l inside
     (≤ℤ-refl (c l) .le)

@@ -4,23 +4,24 @@
 -- unit soft values for two phases and for four.
 -- Not here: the soft values (Clean).  Assumes nothing.
 use Prim.Native.Nat.{ℕ, zero, suc, _+_, _*_, _/_, _%_, _≤_, _<_}
-use native.Mathlib.Nat.{mod-lt, mul-zero, mul-one, one-mul, mul-assoc}
+use native.Mathlib.Nat.{mul-zero, mul-one, one-mul, mul-assoc}
 use native.Mathlib.Omega.{arith}
 use mathlib.Core.Path.{_≡_, refl, sym, _∙_, ap}
 use mathlib.Core.Bool.{Bool, true, false, cond}
 use mathlib.Core.List.{List}
 use lib.Dec.{eqb, lit≤}
 use lib.IntN.{pos, negℤ, _+ℤ_, _-ℤ_, +ℤ-idl, +ℤ-idr, +ℤ-assoc, +ℤ-invr, negℤ-+ℤ}
-use lib.Pow.{pow-pos}
 use borrow.Author.Tests.{eqb-true}
 use Rattle.range.specs.Below.{allBelow}
 use Rattle.range.proofs.Tests.{allBelow-at}
-use Rattle.range.proofs.Shifts.{sumBelow-mul, sumℤ-less}
+use Rattle.range.proofs.Sums.{sumBelow-mul}
+use Rattle.range.proofs.Shifts.{sumℤ-less}
 use Rattle.rules.specs.Shape.{phases, halfTurn, carriers}
-use Rattle.rules.specs.Word.{wordAt, symbolAt, formAt}
+use Rattle.rules.specs.Word.{wordAt, symbolAt}
 use Rattle.rules.specs.Pair.{minus}
 use Rattle.rules.specs.Distance.{leeOf, lee, distance}
 use Rattle.rules.specs.Soft.{heard, correlation, clean}
+use Rattle.rules.proofs.Symbols.{wordAt-lt}
 use Rattle.signals.proofs.Distances.{distance-lee}
 use Rattle.signals.proofs.Clean.{heard-clean}
 
@@ -78,15 +79,15 @@ heard-lee h m a w i s one two p q r =
 pub correlation-clean : (h m a : ℕ) (w : List ℕ) (l : ℕ) → 1 ≤ h → h ≤ 2 →
     ((i : ℕ) → i < carriers m → symbolAt w i < phases h) → correlation h m (clean h m a w) l ≡
     pos (carriers m * a) -ℤ pos (a * (2 / halfTurn h) * distance h (carriers m) (symbolAt w) (wordAt h m l))
-unfolding correlation lee wordAt
+unfolding correlation lee
 correlation-clean h m a w l one two inside =
     let c : ℕ = a * (2 / halfTurn h) in
     let d : ℕ → ℕ = λ i. leeOf h (minus (phases h) (symbolAt w i) (wordAt h m l i)) in
-    let small : (i : ℕ) → wordAt h m l i < phases h = λ i. mod-lt (formAt h m l i) (pow-pos h) in
     sumℤ-less (carriers m) a (λ i. heard h (clean h m a w) i (wordAt h m l i)) (λ i. c * d i)
-    (λ i b. heard-lee h m a w i (wordAt h m l i) one two b (inside i b) (small i))
+    (λ i b. heard-lee h m a w i (wordAt h m l i) one two b (inside i b) (wordAt-lt h m l i))
     ∙ ap (λ (n : ℕ). pos (carriers m * a) -ℤ pos n) (sumBelow-mul (carriers m) c d
-    ∙ ap (λ (n : ℕ). c * n) (sym (distance-lee h (carriers m) (symbolAt w) (wordAt h m l) inside (λ i _. small i))))
+    ∙ ap (λ (n : ℕ). c * n) (sym (distance-lee h (carriers m) (symbolAt w) (wordAt h m l) inside
+    (λ i _. wordAt-lt h m l i))))
 
 pub unit-two : (m : ℕ) (w : List ℕ) (l : ℕ) → ((i : ℕ) → i < carriers m → symbolAt w i < 2) →
     correlation 1 m (clean 1 m 1 w) l ≡

@@ -15,7 +15,7 @@ use lib.Dec.{eqb}
 use lib.Pow.{pow-pos}
 use borrow.Author.Tests.{eqb-true, eqb-false, ne-eqb}
 use Rattle.range.specs.Below.{oneIf, sumBelow, countBelow}
-use Rattle.range.proofs.Sums.{sumBelow-cong, sumBelow-zero, oneIf-le}
+use Rattle.range.proofs.Sums.{sumBelow-cong, sumBelow-zero, sumBelow-sum, sumBelow-mono, oneIf-le}
 use Rattle.rules.specs.Shape.{phases}
 use Rattle.rules.specs.Pair.{minus}
 use Rattle.rules.specs.Distance.{hamming, leeOf, lee}
@@ -51,9 +51,9 @@ shorter-back : (q a : ℕ) → a < q → min ((q - a) % q) (q - (q - a) % q) ≡
 shorter-back q zero p = let e : q - 0 ≡ q = omega arith in rw (e, mod-self q) (omega arith)
 shorter-back q (suc a) p = rw (mod-eq-of-lt {n = q - suc a} {m = q} (omega arith)) (omega arith)
 
-pub lee-weight : (h : ℕ) → 1 ≤ h → Weight (phases h) (leeOf h)
+pub lee-weight : (h : ℕ) → Weight (phases h) (leeOf h)
 unfolding leeOf
-lee-weight h _ = record {
+lee-weight h = record {
   none = omega arith;
   sum = λ a b. rw (add-mod a b (phases h))
       (shorter-sum (phases h) (a % phases h) (b % phases h) (mod-lt a (pow-pos h)) (mod-lt b (pow-pos h)));
@@ -75,8 +75,8 @@ differs-back q (suc a) p =
     rw (mod-eq-of-lt {n = q - suc a} {m = q} (omega arith))
     (differs-one (q - suc a) (omega arith) ∙ sym (differs-one (suc a) (suc-le-suc zero-le)))
 
-pub differs-weight : (q : ℕ) → 0 < q → Weight q differs
-differs-weight q _ = record {
+pub differs-weight : (q : ℕ) → Weight q differs
+differs-weight q = record {
   none = refl;
   sum = λ a b. differs-sum (a % q) (b % q) ((a + b) % q) (λ p r. add-mod a b q ∙ rw (p, r) (zero-mod q));
   back = λ a p. differs-back q a p;
@@ -99,15 +99,6 @@ pub lee-weigh : (h n : ℕ) (a b : ℕ → ℕ) → lee h n a b ≡ weigh (leeOf
 unfolding lee weigh
 lee-weigh h n a b = refl
 
-sumBelow-le-sums : (n : ℕ) (f g k : ℕ → ℕ) → ((i : ℕ) → i < n → f i ≤ g i + k i) →
-    sumBelow n f ≤ sumBelow n g + sumBelow n k
-unfolding sumBelow
-sumBelow-le-sums zero f g k e = zero-le
-sumBelow-le-sums (suc n) f g k e =
-    let rest =
-    sumBelow-le-sums n (λ i. f (suc i)) (λ i. g (suc i)) (λ i. k (suc i)) (λ i h. e (suc i) (suc-le-suc h)) in
-    omega (arith, e zero (suc-le-suc zero-le), rest)
-
 module _ (q : ℕ) (ω : ℕ → ℕ) (weight : Weight q ω) where
   pub weight-back : (a b : ℕ) → a < q → b < q → ω (minus q a b) ≡ ω (minus q b a)
   weight-back a b p r = sym (ap ω (minus-back q a b p r) ∙ weight .back (minus q a b) (minus-lt q a b (omega arith)))
@@ -124,9 +115,6 @@ module _ (q : ℕ) (ω : ℕ → ℕ) (weight : Weight q ω) where
   weigh-zero-of-agree n a b p e =
       sumBelow-zero n _ (λ i l. rw (e i l, minus-self q (b i) (p i l)) (weight .none))
 
-  pub weigh-self : (n : ℕ) (a : ℕ → ℕ) → ((i : ℕ) → i < n → a i < q) → weigh ω q n a a ≡ 0
-  weigh-self n a p = weigh-zero-of-agree n a a p (λ _ _. refl)
-
   pub weigh-comm : (n : ℕ) (a b : ℕ → ℕ) → ((i : ℕ) → i < n → a i < q) → ((i : ℕ) → i < n → b i < q) →
       weigh ω q n a b ≡ weigh ω q n b a
   unfolding weigh
@@ -135,4 +123,6 @@ module _ (q : ℕ) (ω : ℕ → ℕ) (weight : Weight q ω) where
   pub weigh-triangle : (n : ℕ) (a b c : ℕ → ℕ) → ((i : ℕ) → i < n → b i < q) →
       weigh ω q n a c ≤ weigh ω q n a b + weigh ω q n b c
   unfolding weigh
-  weigh-triangle n a b c p = sumBelow-le-sums n _ _ _ (λ i l. weight-through (a i) (b i) (c i) (p i l))
+  weigh-triangle n a b c p =
+      rw (sumBelow-sum n (λ i. ω (minus q (a i) (b i))) (λ i. ω (minus q (b i) (c i))))
+      (sumBelow-mono n _ _ (λ i l. weight-through (a i) (b i) (c i) (p i l)))

@@ -1,6 +1,7 @@
 -- The theorems, proved: Proved has the whole index, the others what its claims about the calls need.
 pub mod Slices
 pub mod Pairs
-pub mod Decoding
+pub mod Damage
+pub mod RoundTrips
 pub mod Ones
 pub mod Proved

@@ -1,17 +1,17 @@
--- Golay pairs, from the definitions to the calls. In order: the word and the partner as lists; the pair check on what
--- encode and partner write, on a word and itself, and on words that cancel; the envelope
--- powers of both.
+-- Golay pairs, from the definitions to the calls. In order: what is told of two words in range; the word and the
+-- partner of a message, as functions and as lists; the pair check on what encode and partner write, on a word and
+-- itself, and on words that cancel; the envelope powers of both.
 -- Not here: that word and partner are a pair, and that pairs are words that cancel (crate golay).  Assumes nothing.
 use Prim.Native.Nat.{ℕ, _*_, _≤_, _<_}
 use native.Mathlib.Omega.{arith}
 use mathlib.Core.Path.{_≡_, refl, sym, _∙_, ap, ap₂}
-use mathlib.Core.Bool.{true, false, true≢false}
+use mathlib.Core.Bool.{true, true≢false}
 use mathlib.Core.List.{List}
-use mathlib.Core.Logic.{_≢_}
+use mathlib.Core.Logic.{_≢_, _↔_}
 use lib.Dec.{eqb}
 use lib.IntN.{pos, _+ℤ_}
 use Rattle.range.specs.Below.{oneIf}
-use Rattle.rules.specs.Shape.{inShape, halfTurn, carriers, messages}
+use Rattle.rules.specs.Shape.{inShape, phases, halfTurn, carriers, messages}
 use Rattle.rules.specs.Label.{labelOf}
 use Rattle.rules.specs.Word.{wordOf, partnerOf, symbolAt}
 use Rattle.rules.specs.Pair.{GolayPair, golayPair}
@@ -20,20 +20,29 @@ use Rattle.rules.specs.Envelope.{envelopePower}
 use Rattle.rules.specs.Outcome.{gives}
 use Rattle.rules.specs.Refusal.{pairOutcome}
 use Rattle.rules.proofs.Range.{inShape-range, range-inM}
+use Rattle.rules.proofs.OutcomeLaws.{gives-inj}
+use Rattle.rules.proofs.Symbols.{wordAt-lt, partnerAt-lt}
 use Rattle.words.proofs.Labels.{labelOf-lt}
-use Rattle.words.proofs.Forms.{wordAt-lt, partnerAt-lt, wordOf-at, partnerOf-at}
+use Rattle.words.proofs.Forms.{wordOf-at, partnerOf-at}
 use Rattle.golay.proofs.Autocorrelations.{golayPair-iff-cancel}
 use Rattle.golay.proofs.LabelPairs.{golayPair-word-partner}
 use Rattle.golay.proofs.Envelopes.{envelopePower-together}
 use Rattle.pair.specs.declared.Paired.{Paired}
-use Rattle.pair.specs.declared.Paired.the-variants.{Yes, No}
+use Rattle.pair.specs.declared.Paired.the-variants.{Yes}
 use Rattle.pair.specs.Told.{pairedTold}
-use Rattle.pair.proofs.Pairs.{golayPair-at, golayPair-of, golayPair-cong, golayPair-self}
+use Rattle.pair.proofs.Pairs.{golayPair-iff, golayPair-cong, golayPair-self}
 use Rattle.pair.proofs.Outcomes.{Sized, pair-given, pair-gives}
 use Rattle.pair.proofs.Told.{pairedTold-inj}
-use Rattle.theorems.specs.Theorems.{word, partner, Encodes, Partners}
+use Rattle.theorems.specs.Theorems.{word, partner, Symbols, Encodes, Partners}
 use Rattle.theorems.proofs.Slices.{symbols-none, wordOf-symbols, partnerOf-symbols, done-shape, done-message}
 use Rattle.theorems.proofs.Slices.{done-word}
+
+-- of two words in range the test of a pair is told
+pair-tested : (h m : ℕ) (w v : List ℕ) → inShape h m ≡ true → Symbols h m w → Symbols h m v →
+    gives (golayPair h m (symbolAt w) (symbolAt v)) ≡ pairOutcome h m w v
+pair-tested h m w v shape a b =
+    let s : Sized h m (phases h) w v = record { shape = shape; turn = refl; first = a .long; second = b .long } in
+    pair-given h m (phases h) w v s (symbols-none h m w a) (symbols-none h m v b)
 
 module _ (h m g : ℕ) (shape : inShape h m ≡ true) (taken : g < messages h m) where
   pub word-partner : GolayPair h m (word h m g) (partner h m g)
@@ -48,47 +57,38 @@ module _ (h m g : ℕ) (shape : inShape h m ≡ true) (taken : g < messages h m)
   -- the two lists
   lists-pair : golayPair h m (symbolAt (wordOf h m g)) (symbolAt (partnerOf h m g)) ≡ true
   lists-pair =
-      golayPair-of h m _ _ (golayPair-cong h m (word h m g) (partner h m g) _ _ (λ i l. sym (wordOf-at h m g i l))
+      golayPair-iff h m _ _ .1 (golayPair-cong h m (word h m g) (partner h m g) _ _ (λ i l. sym (wordOf-at h m g i l))
       (λ i l. sym (partnerOf-at h m g i l)) word-partner)
 
   lists-yes : gives true ≡ pairOutcome h m (wordOf h m g) (partnerOf h m g)
   lists-yes =
-      let a = wordOf-symbols h m g in
-      let b = partnerOf-symbols h m g in
-      let s : Sized h m _ (wordOf h m g) (partnerOf h m g) =
-      record { shape = shape; turn = refl; first = a .long; second = b .long } in
       ap gives (sym lists-pair)
-      ∙ pair-given h m _ (wordOf h m g) (partnerOf h m g) s (symbols-none h m _ a) (symbols-none h m _ b)
+      ∙ pair-tested h m (wordOf h m g) (partnerOf h m g) shape (wordOf-symbols h m g) (partnerOf-symbols h m g)
 
-pub written-pair : (h m g : ℕ) (d e w v : List ℕ) (t : Paired) → Encodes h m g d w → Partners h m g e v →
+pub written-yes : (h m g : ℕ) (d e w v : List ℕ) (t : Paired) → Encodes h m g d w → Partners h m g e v →
     pairedTold t ≡ pairOutcome h m w v → t ≡ Yes
-written-pair h m g d e w v t p q told =
+written-yes h m g d e w v t p q told =
     pairedTold-inj t Yes (told ∙ ap₂ (pairOutcome h m) (done-word p) (done-word q)
     ∙ sym (lists-yes h m g (done-shape p) (done-message p)))
 
-pub self-no-pair : (h m : ℕ) (a : ℕ → ℕ) → 1 ≤ h → 1 ≤ m → GolayPair h m a a → ⊥
-self-no-pair h m a p q pair = true≢false (sym (golayPair-of h m a a pair) ∙ golayPair-self h m a p q)
+pub self-not-pair : (h m : ℕ) (a : ℕ → ℕ) → 1 ≤ h → 1 ≤ m → GolayPair h m a a → ⊥
+self-not-pair h m a p q pair = true≢false (sym (golayPair-iff h m a a .1 pair) ∙ golayPair-self h m a p q)
 
 pub self-not-yes : (h m : ℕ) (w : List ℕ) (t : Paired) → pairedTold t ≡ pairOutcome h m w w → t ≢ Yes
 self-not-yes h m w t told e =
     let given = pair-gives h m w w true (sym told ∙ ap pairedTold e) in
     let r = inShape-range h m (given .0) in
-    self-no-pair h m (symbolAt w) (r .h-least) (omega (arith, r .m-least)) (golayPair-at h m _ _ (given .1))
+    self-not-pair h m (symbolAt w) (r .h-least) (omega (arith, r .m-least)) (golayPair-iff h m _ _ .0 (given .1))
 
-pub yes-cancels : (h m : ℕ) (w v : List ℕ) → pairedTold Yes ≡ pairOutcome h m w v →
-    Cancel h m (symbolAt w) (symbolAt v)
-yes-cancels h m w v told =
-    let given = pair-gives h m w v true (sym told) in
-    golayPair-iff-cancel h m (symbolAt w) (symbolAt v) (inShape-range h m (given .0) .h-least) .0
-    (golayPair-at h m (symbolAt w) (symbolAt v) (given .1))
-
-pub no-cancels-not : (h m : ℕ) (w v : List ℕ) → pairedTold No ≡ pairOutcome h m w v →
-    Cancel h m (symbolAt w) (symbolAt v) → ⊥
-no-cancels-not h m w v told cancel =
-    let given = pair-gives h m w v false (sym told) in
-    let pair : GolayPair h m (symbolAt w) (symbolAt v) =
-    golayPair-iff-cancel h m (symbolAt w) (symbolAt v) (inShape-range h m (given .0) .h-least) .1 cancel in
-    true≢false (sym (golayPair-of h m (symbolAt w) (symbolAt v) pair) ∙ given .1)
+pub yes-iff-cancel : (h m : ℕ) (w v : List ℕ) (r : Paired) → inShape h m ≡ true → Symbols h m w → Symbols h m v →
+    pairedTold r ≡ pairOutcome h m w v → (r ≡ Yes) ↔ Cancel h m (symbolAt w) (symbolAt v)
+yes-iff-cancel h m w v r shape a b told =
+    let same = golayPair-iff-cancel h m (symbolAt w) (symbolAt v) (inShape-range h m shape .h-least) in
+    let test = golayPair-iff h m (symbolAt w) (symbolAt v) in
+    let given = told ∙ sym (pair-tested h m w v shape a b) in (
+      λ e. same .0 (test .0 (gives-inj (sym given ∙ ap pairedTold e))),
+      λ cancel. pairedTold-inj r Yes (given ∙ ap gives (test .1 (same .1 cancel))),
+    )
 
 pub envelope-together : (h m g r s t : ℕ) → inShape h m ≡ true → g < messages h m → h ≤ r → t < halfTurn r →
     envelopePower h (carriers m) (word h m g) r s t +ℤ envelopePower h (carriers m) (partner h m g) r s t

@@ -1,33 +1,35 @@
 -- Every theorem of the index (specs/Theorems.antt) holds.  Assumes nothing.
+use native.Mathlib.Nat.{le-trans}
 use Rattle.rules.specs.Label.{labelOf}
 use Rattle.rules.specs.Word.{wordOf, partnerOf}
 use Rattle.rules.proofs.Range.{inShape-range, range-inM}
-use Rattle.signals.proofs.Noiseless.{clean-fits}
+use Rattle.signals.proofs.Noiseless.{clean-size}
 use Rattle.words.proofs.Labels.{labelOf-lt, labelOf-inj}
 use Rattle.words.proofs.Partners.{partnerOf-not-wordOf}
 use Rattle.golay.proofs.Autocorrelations.{cancel-iff-counts}
 use Rattle.distances.proofs.Apart.{hamming-apart, lee-apart}
 use Rattle.transform.proofs.Unique.{handed-unique}
+use Rattle.transform.proofs.RemainsLaws.{remains-unique}
 use Rattle.decoder.proofs.Outcomes.{hears-found, matches-found}
 use Rattle.theorems.specs.Theorems.{Theorems}
-use Rattle.theorems.proofs.Pairs.{word-partner, partner-cancels, written-pair, self-no-pair, self-not-yes}
-use Rattle.theorems.proofs.Pairs.{envelope-together, yes-cancels, no-cancels-not}
-use Rattle.theorems.proofs.Decoding.{damage-two, damage-four, read-back, hard-back, soft-back}
+use Rattle.theorems.proofs.Slices.{sent-writes}
+use Rattle.theorems.proofs.Pairs.{word-partner, partner-cancels, written-yes, self-not-pair, self-not-yes}
+use Rattle.theorems.proofs.Pairs.{yes-iff-cancel, envelope-together}
+use Rattle.theorems.proofs.Damage.{damage-two, damage-four}
+use Rattle.theorems.proofs.RoundTrips.{read-back, hard-back, soft-back}
 use Rattle.theorems.proofs.Ones.{sent-one, check-one, read-one, soft-one, hard-one, refusal-one, run-one}
 
 pub theorems : Theorems
 theorems = record {
   word-partner = word-partner;
-  written-pair = written-pair;
-  self-no-pair = self-no-pair;
+  encode-writes = λ h m g. sent-writes h m g (wordOf h m g);
+  partner-writes = λ h m g. sent-writes h m g (partnerOf h m g);
+  written-yes = written-yes;
+  self-not-pair = self-not-pair;
   self-not-yes = self-not-yes;
   counts-iff-zero = λ h n a b u one. (cancel-iff-counts h n a b u one .1, cancel-iff-counts h n a b u one .0);
   partner-cancels = partner-cancels;
-  yes-cancels = yes-cancels;
-  no-cancels-not = no-cancels-not;
-  envelope-together = envelope-together;
-  soft-greatest = λ h m ys a hears. hears .greatest;
-  hard-nearest = λ h m w a matches. matches .nearest;
+  yes-iff-cancel = yes-iff-cancel;
   places-apart = λ h m g k shape p q n.
       let r = inShape-range h m shape in
       hamming-apart h m (labelOf h m g) (labelOf h m k) (r .h-least) (range-inM h m r) (labelOf-lt h m g p)
@@ -40,9 +42,9 @@ theorems = record {
   read-back = read-back;
   hard-back = hard-back;
   soft-back = soft-back;
-  clean-fits = λ h m a w small j. clean-fits h m a w small j .0;
-  encode-one = λ h m g d o p. sent-one h m g (wordOf h m g) d o p;
-  partner-one = λ h m g d o p. sent-one h m g (partnerOf h m g) d o p;
+  clean-fits = λ h m a w small j. le-trans (clean-size h m a w j) small;
+  encode-one = λ h m g. sent-one h m g (wordOf h m g);
+  partner-one = λ h m g. sent-one h m g (partnerOf h m g);
   check-one = check-one;
   read-one = read-one;
   soft-one = soft-one;
@@ -50,9 +52,13 @@ theorems = record {
   refusal-one = refusal-one;
   run-one = run-one;
   transform-one = λ m x y r s. handed-unique;
-  soft-answers = λ h m ys t e hears. hears-found h m ys t hears e;
-  hard-answers = λ h m w t e matches. matches-found h m w t matches e;
-  partner-other = λ h m g shape.
+  remains-one = remains-unique;
+  soft-answers = λ h m ys r e hears. hears-found h m ys r hears e;
+  hard-answers = λ h m w r e matches. matches-found h m w r matches e;
+  soft-greatest = λ h m ys a hears. hears .greatest;
+  hard-nearest = λ h m w a matches. matches .nearest;
+  partner-not-word = λ h m g shape.
       let r = inShape-range h m shape in
       partnerOf-not-wordOf h m g (r .h-least) (range-inM h m r);
+  envelope-together = envelope-together;
 }

@@ -1,24 +1,24 @@
--- What a slice holds once encode or partner has written it: N symbols in range, of a shape and a message in range.
--- Not here: what the calls then answer (Pairs, Decoding).  Assumes nothing.
+-- What encode and partner leave in a slice: N symbols in range, of a shape and a message in range. In order: none of N
+-- symbols in range is refused; the words and the partners are such; the shape, the message and the word of what was
+-- written; where they write.
+-- Not here: what the calls then answer (Pairs, Damage, RoundTrips).  Assumes nothing.
 use Prim.Native.Nat.{ℕ, _<_}
-use mathlib.Core.Path.{_≡_, sym, subst}
+use mathlib.Core.Path.{_≡_, sym, _∙_, subst}
 use mathlib.Core.Bool.{true}
 use mathlib.Core.List.{List}
 use mathlib.Core.Option.{none}
 use lib.ListN.{length}
+use borrow.Author.Tests.{lt-leb}
 use Rattle.rules.specs.Shape.{inShape, phases, carriers, messages}
-use Rattle.rules.specs.Word.{wordOf, partnerOf, symbolAt}
+use Rattle.rules.specs.Word.{wordOf, partnerOf}
 use Rattle.rules.specs.Table.{firstBad}
 use Rattle.shape.proofs.SymbolLaws.{firstBad-of-below}
 use Rattle.words.proofs.Forms.{length-wordOf, length-partnerOf, wordOf-lt, partnerOf-lt}
+use Rattle.encoder.specs.declared.Written.{Written}
 use Rattle.encoder.specs.declared.Written.the-variants.{Done}
 use Rattle.encoder.specs.Sent.{Sent}
-use Rattle.encoder.proofs.SentLaws.{send-taken, sent-word}
-
--- w is N symbols in range
-pub record Symbols (h m : ℕ) (w : List ℕ) : Type 0 where
-  pub long : length w ≡ carriers m
-  pub inside : (i : ℕ) → i < carriers m → symbolAt w i < phases h
+use Rattle.encoder.proofs.SentLaws.{send-allowed, send-taken, sent-word, writtenTold-inj}
+use Rattle.theorems.specs.Theorems.{Symbols}
 
 pub symbols-none : (h m : ℕ) (w : List ℕ) → Symbols h m w → none ≡ firstBad (phases h) w
 symbols-none h m w s =
@@ -39,3 +39,9 @@ module _ {h m g : ℕ} {word d w : List ℕ} (s : Sent h m g word d Done w) wher
 
   pub done-word : w ≡ word
   done-word = sent-word s (sym (s .told))
+
+pub sent-writes : (h m g : ℕ) (word d w : List ℕ) (r : Written) → inShape h m ≡ true → length d ≡ carriers m →
+    g < messages h m → Sent h m g word d r w → (r ≡ Done) × (w ≡ word)
+sent-writes h m g word d w r shape long inside s =
+    let e = send-allowed h m (length d) g shape long (lt-leb (messages h m) g inside) in
+    (writtenTold-inj r Done (s .told ∙ e), sent-word s e)

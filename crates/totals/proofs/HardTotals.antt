@@ -5,13 +5,13 @@ use Prim.Native.Nat.{ℕ, _+_, _*_, _≤_, _<_}
 use native.Mathlib.Omega.{arith}
 use mathlib.Core.Path.{_≡_}
 use mathlib.Core.List.{List}
-use Rattle.range.proofs.Shifts.{sumBelow-pairs}
+use Rattle.range.proofs.Sums.{sumBelow-pairs}
 use Rattle.rules.specs.Shape.{phases, halfTurn, carriers}
 use Rattle.rules.specs.Word.{wordAt, symbolAt}
 use Rattle.rules.specs.Pair.{minus}
 use Rattle.rules.specs.Distance.{leeOf, lee, distance}
+use Rattle.rules.proofs.Symbols.{wordAt-lt}
 use Rattle.signals.proofs.Distances.{leeOf-le, distance-lee}
-use Rattle.words.proofs.Forms.{wordAt-lt}
 use Rattle.totals.specs.Totals.{totalOf}
 use Rattle.totals.specs.Gains.{nearness, hardGain, tableOf}
 use Rattle.totals.proofs.Tables.{totalOf-table}

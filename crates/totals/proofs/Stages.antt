@@ -2,17 +2,18 @@
 -- is c n places further on, modulo the q n places of q symbols. After k stages run t holds, at number r, the sum of
 -- what the first table holds at the 2^k places from t 2^k on, each of them as many symbols further on as the linear
 -- form with the coefficients r adds there.
--- In order: a sum in two halves; runs modulo all of them; before the first stage; one stage; all stages.
+-- In order: a sum in two halves; before the first stage; one stage; all stages.
 -- Not here: the tables by their runs (Runs), words (Words).  Assumes nothing.
 use Prim.Native.Nat.{ℕ, zero, suc, _+_, _*_, _/_, _%_, _^_, _<_}
-use native.Mathlib.Nat.{mul-assoc, pow-zero, pow-suc, pow-succ', two-pow-succ, one-le-pow}
-use native.Mathlib.Nat.{div-add-mod', div-lt-iff-lt-mul, mul-add-mod-self-right, mod-eq-of-lt, mod-lt}
+use native.Mathlib.Nat.{pow-zero, pow-suc, pow-succ', two-pow-succ, one-le-pow}
+use native.Mathlib.Nat.{div-add-mod', div-lt-iff-lt-mul, mod-eq-of-lt, mod-lt}
 use native.Mathlib.Omega.{arith}
 use mathlib.Core.Path.{_≡_, sym, _∙_, ap, ap₂}
 use mathlib.Core.List.{List}
 use lib.ListN.{getD}
 use lib.Pow.{pow-add}
 use Rattle.range.specs.Below.{sumBelow}
+use Rattle.range.proofs.Remainders.{mod-scaled}
 use Rattle.range.proofs.Sums.{sumBelow-cong, sumBelow-add}
 use Rattle.totals.specs.Climb.{pairAt, climbed, climbs}
 use Rattle.totals.proofs.Runs.{climbed-at}
@@ -21,13 +22,6 @@ use Rattle.totals.proofs.Linear.{linearAt, linearAt-first, linearAt-sec
 sumBelow-halves : (k : ℕ) (f : ℕ → ℕ) →
     sumBelow (2 ^ suc k) f ≡ sumBelow (2 ^ k) f + sumBelow (2 ^ k) (λ i. f (2 ^ k + i))
 sumBelow-halves k f = rw (two-pow-succ k) (sumBelow-add (2 ^ k) (2 ^ k) f)
-
--- a number of runs modulo all of them, counted in places
-runs-mod : (y a p e : ℕ) → (y % a * p + e) % (a * p) ≡ (y * p + e) % (a * p)
-runs-mod y a p e =
-    let s : y * p + e ≡ y / a * (a * p) + (y % a * p + e) =
-    ap (λ (x : ℕ). x * p + e) (sym (div-add-mod' y a)) ∙ omega arith in
-    rw s (sym (mul-add-mod-self-right (y / a) (a * p) (y % a * p + e)))
 
 module _ (q n : ℕ) (f : ℕ → ℕ) where
   -- the place that number r of run t takes in at z
@@ -65,11 +59,11 @@ module _ (q n : ℕ) (f : ℕ → ℕ) where
     takes-second z lz =
         let l : ℕ = linearAt q k r z in
         let rest : ℕ = 2 ^ k + z + l * n in
-        let i : t * 2 ^ suc k + (2 ^ k + z) + (c + l) * n ≡ (t + c * u) * 2 ^ suc k + rest =
+        let i : t * 2 ^ suc k + (2 ^ k + z) + (c + l) * n ≡ 2 ^ suc k * (t + c * u) + rest =
         omega (arith, ap (λ (x : ℕ). c * x) e) in
-        let j : further * 2 ^ suc k + rest ≡ (2 * further + 1) * 2 ^ k + z + l * n = rw (pow-suc 2 k) (omega arith) in
-        let all : q * n ≡ q * u * 2 ^ suc k = ap (λ (x : ℕ). q * x) (sym e) ∙ sym (mul-assoc q u (2 ^ suc k)) in
-        rw (linearAt-second q k c r z lc lr lz, i, ← j, all) (sym (runs-mod (t + c * u) (q * u) (2 ^ suc k) rest))
+        let j : 2 ^ suc k * further + rest ≡ (2 * further + 1) * 2 ^ k + z + l * n = rw (pow-suc 2 k) (omega arith) in
+        let all : q * n ≡ 2 ^ suc k * (q * u) = omega (arith, ap (λ (x : ℕ). q * x) e) in
+        rw (linearAt-second q k c r z lc lr lz, i, ← j, all) (sym (mod-scaled (2 ^ suc k) (q * u) (t + c * u) rest))
 
     sumAt-suc : sumAt (suc k) t (c * q ^ k + r) ≡ sumAt k (2 * t) r + sumAt k (2 * further + 1) r
     unfolding sumAt

@@ -29,7 +29,7 @@ use denote.Builtin.{i32}
 use denote.Ref.{RefT, name}
 use denote.Slice.{Holeys, heres, codedHoleys, finally}
 use denote.ExitLaws.{finally-one}
-use Rattle.transform.specs.Remains.{Behind, RemainsOf}
+use Rattle.transform.specs.Remains.{Behind, RemainsOf, SameBeside}
 
 -- two lists joined are equal, and the first two are as long: so the second two are equal
 seam : {X : Type 0} (xs xs′ ys ys′ : List X) → length xs ≡ length xs′ → xs ++ ys ≡ xs′ ++ ys′ → ys ≡ ys′
@@ -109,12 +109,6 @@ module _ {M : Type 1} (𝓤 : URA M) (H : Heap 𝓤) (A : Atoms 𝓤) (W : Given
         via 𝓤 (conj 𝓤 ⟦ finally R γ ys ⟧ ⟦ finally R γ zs ⟧) (sep→conj 𝓤 ⟦ finally R γ ys ⟧ ⟦ finally R γ zs ⟧)
         (finally-one 𝓤 H A W R γ ys zs)
 
-  -- what two endings of the areas, a and b, c and d, have in common: the whole of the area that the part does not stand
-  -- in, and the other behind the part
-  abbrev pub Same : Bool → ℕ → List ℤ → List ℤ → List ℤ → List ℤ → Type 0
-  Same true n a b c d = (b ≡ d) × (drop-list n a ≡ drop-list n c)
-  Same false n a b c d = (a ≡ c) × (drop-list n b ≡ drop-list n d)
-
   -- of one area whole and of another behind its front
   one-whole : (γ δ : GName) (n : ℕ) (ys zs us vs : List ℤ) → ent 𝓤
       ((⟦ finally i32 γ ys ⟧ ∗ ⟦ Behind i32 δ n us ⟧) ∗ ⟦ finally i32 γ zs ⟧ ∗ ⟦ Behind i32 δ n vs ⟧)
@@ -129,6 +123,6 @@ module _ {M : Type 1} (𝓤 : URA M) (H : Heap 𝓤) (A : Atoms 𝓤) (W : Given
       (fact-mono 𝓤 (drop-list n us ≡ drop-list n vs) ((ys ≡ zs) × (drop-list n us ≡ drop-list n vs)) (λ q. (p, q)))))
 
   pub remains-unique : (t : Bool) (n : ℕ) (x y : RefT (List ℤ)) (a b c d : List ℤ) →
-      ent 𝓤 (⟦ RemainsOf t n x y a b ⟧ ∗ ⟦ RemainsOf t n x y c d ⟧) (fact 𝓤 (Same t n a b c d))
+      ent 𝓤 (⟦ RemainsOf t n x y a b ⟧ ∗ ⟦ RemainsOf t n x y c d ⟧) (fact 𝓤 (SameBeside t n a b c d))
   remains-unique true n x y a b c d = one-whole (name y) (name x) n b d a c
   remains-unique false n x y a b c d = one-whole (name x) (name y) n a c b d

@@ -5,10 +5,13 @@
 --           RemainsOf t n x y a b     of the area whose front n entries are handed out (the first where t is true) what
 --                                     stands behind them, and the whole of the other
 --           Remains m x y             the same, of a transform with that m of the areas x and y
+--           SameBeside t n a b c d    what two endings of the areas, a and b, c and d, have in common: the whole of the
+--                                     area that the part does not stand in, and the other behind the part
 -- What the front n entries hold once the part itself is over is not said: a placeholder of the logic stands for one
 -- element under one name, and a clause cannot name the loan's lifetime (docs/PROMISES.md, Exceptions).
 -- Laws: proofs/Tail.antt, Handing.antt, Lender.antt, RemainsLaws.antt.  Assumes nothing: these are definitions.
 use Prim.Native.Nat.{ℕ}
+use mathlib.Core.Path.{_≡_}
 use mathlib.Core.Bool.{Bool, true, false}
 use mathlib.Core.List.{List, _++_}
 use lib.IntN.{ℤ}
@@ -32,3 +35,7 @@ abbrev pub Remains : ℕ → RefT (List ℤ) → RefT (List ℤ) → Fml
 Remains m x y =
     RemainsOf (partInFirst m (now x) (now y)) (partLength m (now x) (now y)) x y (firstAfter m (now x) (now y))
     (secondAfter m (now x) (now y))
+
+abbrev pub SameBeside : Bool → ℕ → List ℤ → List ℤ → List ℤ → List ℤ → Type 0
+SameBeside true n a b c d = (b ≡ d) × (drop n a ≡ drop n c)
+SameBeside false n a b c d = (a ≡ c) × (drop n b ≡ drop n d)

@@ -1,5 +1,6 @@
--- What the calls of a round trip promise together is what the round trip promises: by the theorems of the index. And
--- only one outcome keeps each of these promises.
+-- What the calls of a round trip promise together is what the round trip promises, by the theorems of the index; and
+-- only one outcome keeps each of these promises. In order: what was sent where nothing is refused; the three trips; one
+-- outcome for each.
 -- Assumes nothing.
 use Prim.Native.Nat.{ℕ}
 use mathlib.Core.Path.{_≡_, sym, _∙_, ap₂, subst}
@@ -21,35 +22,35 @@ use Rattle.decoder.specs.declared.Matched.{Matched}
 use Rattle.decoder.specs.Told.{Matches}
 use Rattle.decoder.proofs.Outcomes.{matches-unique}
 use Rattle.theorems.proofs.Proved.{theorems}
-use Rattle.trips.specs.Trips.{ReadBack, MatchedBack, PairedBack}
+use Rattle.trips.specs.Trips.{ReadBack, HardBack, CheckBack}
 
 -- where nothing is refused, the answer is that it is done
-sent-done : {h m g : ℕ} {word d : List ℕ} {s : Written} {w : List ℕ} → Sent h m g word d s w →
+sent-of-allowed : {h m g : ℕ} {word d : List ℕ} {s : Written} {w : List ℕ} → Sent h m g word d s w →
     sendRefusal h m (length d) g ≡ allowed → Sent h m g word d Done w
-sent-done p e = record { told = sym e; slice = p .slice }
+sent-of-allowed p e = record { told = sym e; slice = p .slice }
 
 module _ {h m g : ℕ} {d w : List ℕ} {s : Written} (p : Sent h m g (wordOf h m g) d s w) where
   pub read-trip : {r : Reading} → readingTold r ≡ readOutcome h m w → ReadBack h m g d r w
   read-trip {r} q = record {
     slice = p .slice;
     answer = q;
-    back = λ e. theorems .read-back h m g d w r (sent-done p e) q;
+    back = λ e. theorems .read-back h m g d w r (sent-of-allowed p e) q;
   }
 
-  pub matched-trip : {r : Matched} → Matches h m w r → MatchedBack h m g d r w
-  matched-trip {r} q = record {
+  pub hard-trip : {r : Matched} → Matches h m w r → HardBack h m g d r w
+  hard-trip {r} q = record {
     slice = p .slice;
     answer = q;
-    back = λ e two. theorems .hard-back h m g d w r two (sent-done p e) q;
+    back = λ e two. theorems .hard-back h m g d w r two (sent-of-allowed p e) q;
   }
 
-  pub paired-trip : {b v : List ℕ} {t : Written} {r : Paired} → Sent h m g (partnerOf h m g) b t v →
-      pairedTold r ≡ pairOutcome h m w v → PairedBack h m g d b r w v
-  paired-trip {b} {v} {t} {r} p′ q = record {
+  pub check-trip : {b v : List ℕ} {t : Written} {r : Paired} → Sent h m g (partnerOf h m g) b t v →
+      pairedTold r ≡ pairOutcome h m w v → CheckBack h m g d b r w v
+  check-trip {b} {v} {t} {r} p′ q = record {
     slice = p .slice;
     other = p′ .slice;
     answer = q;
-    back = λ e f. theorems .written-pair h m g d b w v r (sent-done p e) (sent-done p′ f) q;
+    back = λ e f. theorems .written-yes h m g d b w v r (sent-of-allowed p e) (sent-of-allowed p′ f) q;
   }
 
 -- only one outcome, answer and slices, keeps each promise
@@ -59,15 +60,15 @@ readBack-unique {h} {m} {r = r} {s = s} {a = a} p q =
     let e = p .slice ∙ sym (q .slice) in
     (reading-unique h m a r s (p .answer) (subst (λ w. readingTold s ≡ readOutcome h m w) (sym e) (q .answer)), e)
 
-pub matchedBack-unique : {h m g : ℕ} {d : List ℕ} {r s : Matched} {a b : List ℕ} → MatchedBack h m g d r a →
-    MatchedBack h m g d s b → (r ≡ s) × (a ≡ b)
-matchedBack-unique {h} {m} {r = r} {s = s} {a = a} p q =
+pub hardBack-unique : {h m g : ℕ} {d : List ℕ} {r s : Matched} {a b : List ℕ} → HardBack h m g d r a →
+    HardBack h m g d s b → (r ≡ s) × (a ≡ b)
+hardBack-unique {h} {m} {r = r} {s = s} {a = a} p q =
     let e = p .slice ∙ sym (q .slice) in
     (matches-unique h m a r s (p .answer) (subst (λ w. Matches h m w s) (sym e) (q .answer)), e)
 
-pub pairedBack-unique : {h m g : ℕ} {d b : List ℕ} {r s : Paired} {w v w′ v′ : List ℕ} → PairedBack h m g d b r w v →
-    PairedBack h m g d b s w′ v′ → (r ≡ s) × (w ≡ w′) × (v ≡ v′)
-pairedBack-unique {h} {m} {r = r} {s = s} {w = w} {v = v} p q =
+pub checkBack-unique : {h m g : ℕ} {d b : List ℕ} {r s : Paired} {w v w′ v′ : List ℕ} → CheckBack h m g d b r w v →
+    CheckBack h m g d b s w′ v′ → (r ≡ s) × (w ≡ w′) × (v ≡ v′)
+checkBack-unique {h} {m} {r = r} {s = s} {w = w} {v = v} p q =
     let e = p .slice ∙ sym (q .slice) in
     let f = p .other ∙ sym (q .other) in
     (paired-unique h m w v r s (p .answer) (q .answer ∙ sym (ap₂ (pairOutcome h m) e f)), e, f)

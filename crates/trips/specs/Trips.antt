@@ -1,7 +1,7 @@
 -- What the round trips promise: the slices afterwards, the answer on them, and what comes back where nothing is
 -- refused.
 -- Defines:  written h m g d w     what encode or partner leaves in a slice that held d, of a word w for message g
---           ReadBack, MatchedBack, PairedBack    the promises, of slices before and after and the answer r
+--           ReadBack, HardBack, CheckBack    the promises, of slices before and after and the answer r
 -- Assumes nothing: these are definitions.
 use Prim.Native.Nat.{ℕ, _≤_}
 use mathlib.Core.Path.{_≡_}
@@ -27,12 +27,12 @@ pub record ReadBack (h m g : ℕ) (d : List ℕ) (r : Reading) (d′ : List ℕ)
   pub answer : readingTold r ≡ readOutcome h m d′
   pub back : sendRefusal h m (length d) g ≡ allowed → readingTold r ≡ gives g
 
-pub record MatchedBack (h m g : ℕ) (d : List ℕ) (r : Matched) (d′ : List ℕ) : Type 0 where
+pub record HardBack (h m g : ℕ) (d : List ℕ) (r : Matched) (d′ : List ℕ) : Type 0 where
   pub slice : d′ ≡ written h m g d (wordOf h m g)
   pub answer : Matches h m d′ r
   pub back : sendRefusal h m (length d) g ≡ allowed → h ≤ 2 → matchedTold r ≡ gives (g, 0, false)
 
-pub record PairedBack (h m g : ℕ) (d e : List ℕ) (r : Paired) (d′ e′ : List ℕ) : Type 0 where
+pub record CheckBack (h m g : ℕ) (d e : List ℕ) (r : Paired) (d′ e′ : List ℕ) : Type 0 where
   pub slice : d′ ≡ written h m g d (wordOf h m g)
   pub other : e′ ≡ written h m g e (partnerOf h m g)
   pub answer : pairedTold r ≡ pairOutcome h m d′ e′

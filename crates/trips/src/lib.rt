@@ -4,7 +4,7 @@ use decoder::Matched;
 use kinds::MessageNumber;
 use pair::Paired;
 use reader::Reading;
-ghost use Rattle.trips.specs.Trips.{ReadBack, MatchedBack, PairedBack};
+ghost use Rattle.trips.specs.Trips.{ReadBack, HardBack, CheckBack};
 
 // Encodes a message and reads the word: the message comes back. Where encode refuses, the slice stays as it was, and is
 // read so.
@@ -17,22 +17,22 @@ pub fn read_back(h: u32, m: u32, message: MessageNumber, word: &mut [u8]) -> Rea
 
 // Encodes a message and decodes the word: the message comes back at distance 0, not tied. Eight phases are refused 6
 // by the decoder.
-pub fn matched_back(h: u32, m: u32, message: MessageNumber, word: &mut [u8]) -> Matched
-    ensures { λ r. ⌜ MatchedBack h m (message .0) (now (word .entry)) r (now (word .exit)) ⌝ }
+pub fn hard_back(h: u32, m: u32, message: MessageNumber, word: &mut [u8]) -> Matched
+    ensures { λ r. ⌜ HardBack h m (message .0) (now (word .entry)) r (now (word .exit)) ⌝ }
 {
     encoder::encode(h, m, message, word);
     decoder::hard(h, m, word)
 }
 
 // Writes a message's word and its partner, and checks them: they are a pair.
-pub fn paired_back(
+pub fn check_back(
     h: u32,
     m: u32,
     message: MessageNumber,
     word: &mut [u8],
     other: &mut [u8],
 ) -> Paired
-    ensures { λ r. ⌜ PairedBack h m (message .0) (now (word .entry)) (now (other .entry)) r
+    ensures { λ r. ⌜ CheckBack h m (message .0) (now (word .entry)) (now (other .entry)) r
         (now (word .exit)) (now (other .exit)) ⌝ }
 {
     let number = message.0;

@@ -1,32 +1,30 @@
 -- What turning over one digit does to the links of a list of digits' numbers, modulo 2: rules' Word.
 -- Defines:  Turned m a x y    y is x with digit a turned over, among the digits up to m
 --           around a x p      the sum of x over the neighbours of a in p
--- In order: a flip turns one digit over; a digit turned over and the others; the rest of a good list; the links, with
+-- In order: a flip turns one digit over; the rest of a good list; a digit turned over and the others; the links, with
 -- and without one digit turned over, add up to what stands around it; what stands around one digit, with and without
 -- another turned over, adds up to the links of the two.
 -- Not here: where two functions first differ (Before), the forms at four places (FourForms).  Assumes nothing.
-use Prim.Native.Nat.{ℕ, suc, _+_, _*_, _%_, _≤_, _<_, suc-le-suc}
+use Prim.Native.Nat.{ℕ, suc, _+_, _*_, _%_, _≤_, suc-le-suc}
 use native.Mathlib.Decide.{ℕ-discrete}
 use native.Mathlib.Omega.{arith}
 use mathlib.Core.Path.{_≡_, refl, sym, _∙_, ap}
 use mathlib.Core.Logic.{_≢_}
 use mathlib.Core.List.{List, [], _∷_}
 use lib.Dec.{eqb}
-use lib.ListN.{length, getD}
 use borrow.Author.Tests.{eq-eqb, ne-eqb}
 use Rattle.range.specs.Below.{oneIf}
 use Rattle.rules.specs.Place.{digit}
 use Rattle.rules.specs.Word.{links}
 use Rattle.places.proofs.Flips.{flip, digit-flip-at, digit-flip-off}
-use Rattle.paths.proofs.Times.{Distinct, distinct-tail}
-use Rattle.paths.proofs.Pairs.{onPair, onPair-left, onPair-right, onPair-other, second-other}
+use Rattle.paths.proofs.Pairs.{onPair, onPair-left, onPair-right, onPair-other}
 use Rattle.words.proofs.Readings.{Good}
 
-pub record Turned (m a : ℕ) (x y : ℕ → ℕ) : Type 0 where
-  pub at : x a + y a ≡ 1
-  pub off : (k : ℕ) → k ≤ m → k ≢ a → y k ≡ x k
+record Turned (m a : ℕ) (x y : ℕ → ℕ) : Type 0 where
+  at : x a + y a ≡ 1
+  off : (k : ℕ) → k ≤ m → k ≢ a → y k ≡ x k
 
-pub flip-turned : (m a i : ℕ) → a ≤ m → Turned m a (digit m i) (digit m (flip m a i))
+flip-turned : (m a i : ℕ) → a ≤ m → Turned m a (digit m i) (digit m (flip m a i))
 flip-turned m a i u = record { at = digit-flip-at m a i; off = λ k l n. digit-flip-off m a k i u l n }
 
 unfoldable pub around : ℕ → (ℕ → ℕ) → List ℕ → ℕ
@@ -59,7 +57,7 @@ module _ (m a : ℕ) (x y : ℕ → ℕ) (t : Turned m a x y) where
       at (no e) (yes f) = rw (ne-eqb u a e, eq-eqb v a f) (omega (arith, turned-one v u lu f e))
       at (no e) (no f) = rw (ne-eqb u a e, ne-eqb v a f, t .off u lu e, t .off v lv f) (omega arith)
 
-pub links-turned : (m a : ℕ) (x y : ℕ → ℕ) (p : List ℕ) → Good m p → Turned m a x y →
+links-turned : (m a : ℕ) (x y : ℕ → ℕ) (p : List ℕ) → Good m p → Turned m a x y →
     (links x p + links y p) % 2 ≡ around a x p % 2
 unfolding links around
 links-turned m a x y [] g t = refl
@@ -68,6 +66,10 @@ links-turned m a x y (u ∷ (v ∷ p)) g t =
     let first = turned-product m a x y t u v (g .within 0 (omega arith)) (g .within 1 (omega arith))
     (g .apart 0 (omega arith)) in
     omega (arith, first, links-turned m a x y (v ∷ p) (good-tail m u (v ∷ p) g) t)
+
+pub links-flip : (m a i : ℕ) (p : List ℕ) → a ≤ m → Good m p →
+    (links (digit m i) p + links (digit m (flip m a i)) p) % 2 ≡ around a (digit m i) p % 2
+links-flip m a i p l g = links-turned m a (digit m i) (digit m (flip m a i)) p g (flip-turned m a i l)
 
 module _ (m a b : ℕ) (x y : ℕ → ℕ) (n : a ≢ b) (t : Turned m b x y) where
   -- digit k, with and without digit b turned over
@@ -95,13 +97,16 @@ module _ (m a b : ℕ) (x y : ℕ → ℕ) (n : a ≢ b) (t : Turned m b x y) wh
       at (no e) (yes f) = rw (ne-eqb u a e, eq-eqb v a f, onPair-left a b v f) (omega (arith, turned-sum u lu e))
       at (no e) (no f) = rw (ne-eqb u a e, ne-eqb v a f) (omega (arith, apart e f (ℕ-discrete u b)))
 
-pub around-turned : (m a b : ℕ) (x y : ℕ → ℕ) (p : List ℕ) → Distinct p →
-    ((i : ℕ) → i < length p → getD p i 0 ≤ m) → a ≢ b → Turned m b x y →
+around-turned : (m a b : ℕ) (x y : ℕ → ℕ) (p : List ℕ) → Good m p → a ≢ b → Turned m b x y →
     (around a x p + around a y p) % 2 ≡ links (onPair a b) p % 2
 unfolding links around
-around-turned m a b x y [] d w n t = refl
-around-turned m a b x y (u ∷ []) d w n t = refl
-around-turned m a b x y (u ∷ (v ∷ p)) d w n t =
-    let first = turned-neighbours m a b x y n t u v (w 0 (omega arith)) (w 1 (omega arith)) (second-other u v p d) in
-    let rest = around-turned m a b x y (v ∷ p) (distinct-tail u (v ∷ p) d) (λ i l. w (suc i) (suc-le-suc l)) n t in
-    omega (arith, first, rest)
+around-turned m a b x y [] g n t = refl
+around-turned m a b x y (u ∷ []) g n t = refl
+around-turned m a b x y (u ∷ (v ∷ p)) g n t =
+    let first = turned-neighbours m a b x y n t u v (g .within 0 (omega arith)) (g .within 1 (omega arith))
+    (g .apart 0 (omega arith)) in
+    omega (arith, first, around-turned m a b x y (v ∷ p) (good-tail m u (v ∷ p) g) n t)
+
+pub around-flip : (m a b i : ℕ) (p : List ℕ) → b ≤ m → a ≢ b → Good m p →
+    (around a (digit m i) p + around a (digit m (flip m b i)) p) % 2 ≡ links (onPair a b) p % 2
+around-flip m a b i p l n g = around-turned m a b (digit m i) (digit m (flip m b i)) p g n (flip-turned m b i l)

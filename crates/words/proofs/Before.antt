@@ -1,12 +1,13 @@
 -- The step before the first digit of a list at which two functions differ: what stands around it is odd in sum.
 -- Defines:  stepBefore x y c p    the step before the first of p at which x and y differ, where c comes before p
--- In order: x and y agree at the step before; it is in the list; it depends on where x and y differ alone; nothing
--- stands around what is absent; what stands around the step before.
+-- In order: x and y agree at the step before; it is in the list; it depends on where x and y differ alone; what stands
+-- around what is absent, around the head, and past a head at which x and y agree; functions that agree at the head and
+-- in the rest; what stands around the step before.
 -- Not here: digits turned over (Around).  Assumes nothing.
 use Prim.Native.Nat.{ℕ, _+_, _%_, _<_}
 use native.Mathlib.Omega.{arith}
 use mathlib.Core.Path.{_≡_, refl, _∙_}
-use mathlib.Core.Logic.{_≢_, _⊎_, inl, inr}
+use mathlib.Core.Logic.{_≢_, ⊎-elim}
 use mathlib.Core.Bool.{Bool, true, false, cond}
 use mathlib.Core.List.{List, [], _∷_, List·Memᴰ, List·Memᴰ·head, List·Memᴰ·tail, List·Memᴰ·not-nil}
 use mathlib.Core.List.{List·Memᴰ·cases-cons}
@@ -71,13 +72,10 @@ around-past : (a u v : ℕ) (x y : ℕ → ℕ) (p : List ℕ) → x u ≡ y u �
 unfolding around
 around-past a u v x y p e f = rw (e, f) (omega arith)
 
-differ-past : (x y : ℕ → ℕ) (v : ℕ) (p : List ℕ) → x v ≡ y v →
-    (((k : ℕ) → List·Memᴰ k (v ∷ p) → x k ≡ y k) → ⊥) → ((k : ℕ) → List·Memᴰ k p → x k ≡ y k) → ⊥
-differ-past x y v p e f g = f (λ k i. at k (List·Memᴰ·cases-cons i))
-  where
-    at : (k : ℕ) → (k ≡ v) ⊎ List·Memᴰ k p → x k ≡ y k
-    at k (inl q) = rw q e
-    at k (inr i) = g k i
+-- two functions that agree at the head and in the rest agree in the whole
+pub agree-cons : (x y : ℕ → ℕ) (v : ℕ) (p : List ℕ) → x v ≡ y v → ((k : ℕ) → List·Memᴰ k p → x k ≡ y k) →
+    (k : ℕ) → List·Memᴰ k (v ∷ p) → x k ≡ y k
+agree-cons x y v p e f k i = ⊎-elim (λ q. rw q e) (λ j. f k j) (List·Memᴰ·cases-cons i)
 
 -- what stands around a step, in both functions
 abbrev both : (ℕ → ℕ) → (ℕ → ℕ) → List ℕ → ℕ → ℕ
@@ -90,7 +88,7 @@ unfolding stepBefore
 around-before x y u [] d lx ly e f = absurd (f (λ k i. absurd (List·Memᴰ·not-nil i)))
 around-before x y u (v ∷ p) d lx ly e f =
     at (eqb (x v) (y v)) refl
-    (λ q. around-before x y v p (distinct-tail u (v ∷ p) d) lx ly q (differ-past x y v p q f))
+    (λ q. around-before x y v p (distinct-tail u (v ∷ p) d) lx ly q (λ g. f (agree-cons x y v p q g)))
   where
     at : (b : Bool) → eqb (x v) (y v) ≡ b → (x v ≡ y v → both x y (v ∷ p) (stepBefore x y v p) % 2 ≡ 1) →
         both x y (u ∷ (v ∷ p)) (cond b (stepBefore x y v p) u) % 2 ≡ 1

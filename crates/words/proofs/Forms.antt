@@ -1,13 +1,12 @@
--- The form as code computes it: rules' Word and Place. In order: the symbols are below 2^h; the form by the rows of the
--- generator; the partner from the form, with one reduction; the words as lists.
--- Not here: what a word shows of its label (Readings).  Assumes nothing.
+-- The form as code computes it: rules' Word and Place. In order: the form by the rows of the generator; the partner
+-- from the form, with one reduction; the words as lists, their lengths, symbols and bounds.
+-- Not here: bounds of symbols (rules' Symbols), what a word shows of its label (Readings).  Assumes nothing.
 use Prim.Native.Nat.{ℕ, _+_, _*_, _%_, _<_}
-use native.Mathlib.Nat.{mod-lt, mod-add-mod}
+use native.Mathlib.Nat.{mod-add-mod}
 use native.Mathlib.Numerals.{add-one}
 use native.Mathlib.Omega.{arith}
 use mathlib.Core.Path.{_≡_}
 use lib.ListN.{length, getD}
-use lib.Pow.{pow-pos}
 use Rattle.range.specs.Below.{sumBelow}
 use Rattle.range.proofs.Lists.{length-listBelow, listBelow-at}
 use Rattle.rules.specs.Shape.{phases, halfTurn, carriers}
@@ -15,14 +14,7 @@ use Rattle.rules.specs.Place.{digit, generatorAt}
 use Rattle.rules.specs.Path.{headOf, pathAt}
 use Rattle.rules.specs.Label.{labelPath, rowCoefficient, labelOf}
 use Rattle.rules.specs.Word.{links, formAt, wordAt, partnerAt, wordOf, partnerOf}
-
-pub wordAt-lt : (h m l i : ℕ) → wordAt h m l i < phases h
-unfolding wordAt
-wordAt-lt h m l i = mod-lt (formAt h m l i) (pow-pos h)
-
-pub partnerAt-lt : (h m l i : ℕ) → partnerAt h m l i < phases h
-unfolding partnerAt
-partnerAt-lt h m l i = mod-lt _ (pow-pos h)
+use Rattle.rules.proofs.Symbols.{wordAt-lt, partnerAt-lt}
 
 pub formAt-rows : (h m l i : ℕ) → formAt h m l i ≡
     halfTurn h * links (digit m i) (pathAt m (labelPath h m l))
@@ -35,7 +27,6 @@ pub partnerAt-form : (h m l i : ℕ) → partnerAt h m l i ≡
 unfolding partnerAt wordAt
 partnerAt-form h m l i = mod-add-mod (formAt h m l i) (phases h) _
 
--- the words as lists: their lengths and their symbols
 pub length-wordOf : (h m g : ℕ) → length (wordOf h m g) ≡ carriers m
 unfolding wordOf
 length-wordOf h m g = length-listBelow (carriers m) _

@@ -1,35 +1,21 @@
--- The forms at four places: rules' Word. In order: the links where two digits are turned over, singly and together, add
--- up to the links of the two; the linear parts of four places whose digits balance; their forms balance up to half a
--- turn for each odd link.
--- Not here: one digit turned over (Around), multiples of half a turn (Halves).  Assumes nothing.
+-- The forms at four places: rules' Word. In order: the linear parts of four places whose digits balance; two forms
+-- together; the forms of such places balance, up to half a turn where their links have an odd sum; so do those of two
+-- places that agree in a digit and of both with it turned over, by what stands around that digit.
+-- Not here: links with a digit turned over (Around), multiples of half a turn (rules' Turns).  Assumes nothing.
 use Prim.Native.Nat.{ℕ, suc, _+_, _*_, _%_, _≤_, _<_, zero-le, suc-le-suc}
 use native.Mathlib.Omega.{arith}
 use mathlib.Core.Path.{_≡_, sym, _∙_, ap}
-use mathlib.Core.Logic.{_≢_}
-use mathlib.Core.List.{List}
-use Rattle.range.proofs.Remainders.{mod-extend}
+use Rattle.range.proofs.Remainders.{mod-sum}
 use Rattle.range.proofs.Sums.{sumBelow-sum, sumBelow-cong}
 use Rattle.rules.specs.Shape.{phases, halfTurn}
 use Rattle.rules.specs.Place.{digit}
-use Rattle.rules.specs.Label.{coefficient, constant}
-use Rattle.rules.specs.Word.{links, formAt}
-use Rattle.paths.proofs.Times.{Distinct}
-use Rattle.paths.proofs.Pairs.{onPair}
+use Rattle.rules.specs.Path.{pathAt}
+use Rattle.rules.specs.Label.{labelPath, coefficient, constant}
+use Rattle.rules.specs.Word.{formAt}
+use Rattle.rules.proofs.Turns.{half-of-parity}
+use Rattle.places.proofs.Flips.{flip, digit-flip-balance}
 use Rattle.words.proofs.Readings.{Good, linked, linear}
-use Rattle.words.proofs.Halves.{half-of-parity}
-use Rattle.words.proofs.Around.{Turned, links-turned, around-turned}
-
--- digit a turned over, digit b, and both
-pub links-double : (m a b : ℕ) (x xa xb xab : ℕ → ℕ) (p : List ℕ) → Good m p → Distinct p → a ≢ b →
-    Turned m a x xa → Turned m b x xb → Turned m a xb xab →
-    (links x p + links xa p + (links xb p + links xab p)) % 2 ≡ links (onPair a b) p % 2
-links-double m a b x xa xb xab p g d n t s r =
-    omega (
-      arith,
-      links-turned m a x xa p g t,
-      links-turned m a xb xab p g r,
-      around-turned m a b x xb p d (g .within) n s,
-    )
+use Rattle.words.proofs.Around.{around, links-flip}
 
 -- the linear parts of four places whose digits balance
 linear-four : (h m l i j k t : ℕ) →
@@ -49,16 +35,26 @@ formAt-pair : (h m l i j : ℕ) → formAt h m l i + formAt h m l j ≡
 unfolding formAt
 formAt-pair h m l i j = omega arith
 
--- four places whose digits balance: the forms balance up to half a turn for each odd link
-pub formAt-four : (h m l i j k t ε : ℕ) → 1 ≤ h →
+-- the forms of such places, where ε has the parity of their links
+formAt-four : (h m l i j k t ε : ℕ) → 1 ≤ h →
     ((r : ℕ) → 1 ≤ r → r ≤ m → digit m i r + digit m t r ≡ digit m j r + digit m k r) →
     (linked h m l i + linked h m l j + (linked h m l k + linked h m l t)) % 2 ≡ ε % 2 →
     (formAt h m l i + formAt h m l t + halfTurn h * ε) % phases h ≡ (formAt h m l j + formAt h m l k) % phases h
-formAt-four h m l i j k t ε pos e odd =
+formAt-four h m l i j k t ε one e odd =
     let s : ℕ = linear h m l j + linear h m l k + 2 * constant h l in
     let u : ℕ = linked h m l i + linked h m l t + ε in
     let v : ℕ = linked h m l j + linked h m l k in
     let f : formAt h m l i + formAt h m l t + halfTurn h * ε ≡ halfTurn h * u + s =
     omega (arith, formAt-pair h m l i t, linear-four h m l i j k t e) in
-    rw (f, formAt-pair h m l j k)
-    (mod-extend (phases h) (halfTurn h * u) (halfTurn h * v) s (half-of-parity h u v pos (omega arith)))
+    rw (f, formAt-pair h m l j k) (half-of-parity h u v s one (omega arith))
+
+-- places i and j agree in digit a, and ε has the parity of what stands around it at both
+pub formAt-flip-balance : (h m l a i j ε : ℕ) → 1 ≤ h → a ≤ m → Good m (pathAt m (labelPath h m l)) →
+    digit m i a ≡ digit m j a →
+    (around a (digit m i) (pathAt m (labelPath h m l)) + around a (digit m j) (pathAt m (labelPath h m l))) % 2
+    ≡ ε % 2 →
+    (formAt h m l i + formAt h m l (flip m a j) + halfTurn h * ε) % phases h
+    ≡ (formAt h m l (flip m a i) + formAt h m l j) % phases h
+formAt-flip-balance h m l a i j ε one la good s e =
+    formAt-four h m l i (flip m a i) j (flip m a j) ε one (λ r _ lr. digit-flip-balance m a i j r la lr s)
+    (mod-sum 2 _ _ _ _ (links-flip m a i _ la good) (links-flip m a j _ la good) ∙ e)

@@ -6,7 +6,6 @@ pub mod Order
 pub mod Forms
 pub mod Readings
 pub mod Used
-pub mod Halves
 pub mod Partners
 pub mod Around
 pub mod Before

@@ -13,11 +13,12 @@ use Rattle.rules.specs.Path.{IsPath, headOf, pathAt}
 use Rattle.rules.specs.Label.{labels, labelPath, labelOf}
 use Rattle.rules.specs.Word.{wordAt, partnerAt, wordOf, partnerOf}
 use Rattle.rules.proofs.Range.{inM-least}
+use Rattle.rules.proofs.Symbols.{wordAt-lt}
 use Rattle.rules.proofs.Turns.{halfTurn-moves}
 use Rattle.paths.proofs.Members.{isPath-in}
 use Rattle.places.proofs.Digits.{one-lt, digit-one-at}
 use Rattle.words.proofs.Labels.{labelOf-lt}
-use Rattle.words.proofs.Forms.{wordAt-lt, wordOf-at, partnerOf-at}
+use Rattle.words.proofs.Forms.{wordOf-at, partnerOf-at}
 use Rattle.words.proofs.Used.{labelPath-isPath}
 
 -- the first of a list is its element at 0
@@ -45,7 +46,7 @@ module _ (h m l : ℕ) (one : 1 ≤ h) (range : T (inM m)) (used : l < labels h 
   place-in : place < carriers m
   place-in = one-lt m first (first-in .0) (first-in .1)
 
-  pub partnerAt-differs : partnerAt h m l place ≢ wordAt h m l place
+  partnerAt-differs : partnerAt h m l place ≢ wordAt h m l place
   unfolding partnerAt
   partnerAt-differs =
       rw (digit-one-at m first, mul-one (halfTurn h))

@@ -1,9 +1,9 @@
 -- What a word shows of its label: rules' Word. At place 0 it shows the constant, and at the place with digit k alone it
--- shows c_k more. In order: links where no two neighbours have digit 1; the paths in question; the forms at these
--- places; the words there; the coefficient read back.
+-- shows c_k more. In order: links where no two neighbours have digit 1; paths on the digits; the links, the linear
+-- parts and the forms at these places; the words there; the coefficient read back.
 -- Not here: that the word determines its label (distances' Inject).  Assumes nothing.
 use Prim.Native.Nat.{ℕ, zero, suc, _+_, _-_, _*_, _%_, _^_, _≤_, _<_, suc-le-suc}
-use native.Mathlib.Nat.{le-refl, mul-zero, zero-mul, mul-one, mod-eq-of-lt}
+use native.Mathlib.Nat.{mul-zero, zero-mul, mul-one, mod-eq-of-lt}
 use native.Mathlib.Decide.{ℕ-discrete}
 use native.Mathlib.Omega.{arith}
 use mathlib.Core.Path.{_≡_, refl, sym, _∙_}
@@ -22,7 +22,7 @@ use Rattle.rules.proofs.Differences.{minus-of-sum}
 use Rattle.places.proofs.Digits.{digit-zero, digit-one-at, digit-one-off}
 use Rattle.words.proofs.Labels.{coefficient-lt, constant-lt}
 
-pub links-zero : (x : ℕ → ℕ) (p : List ℕ) →
+links-zero : (x : ℕ → ℕ) (p : List ℕ) →
     ((i : ℕ) → suc i < length p → x (getD p i 0) * x (getD p (suc i) 0) ≡ 0) → links x p ≡ 0
 unfolding links
 links-zero x [] e = refl
@@ -35,11 +35,7 @@ pub record Good (m : ℕ) (p : List ℕ) : Type 0 where
   pub within : (i : ℕ) → i < length p → getD p i 0 ≤ m
   pub apart : (i : ℕ) → suc i < length p → getD p i 0 ≢ getD p (suc i) 0
 
-pub good-of-different : (m : ℕ) (p : List ℕ) → ((i : ℕ) → i < length p → getD p i 0 ≤ m) →
-    ((i j : ℕ) → i < j → j < length p → getD p i 0 ≢ getD p j 0) → Good m p
-good-of-different m p w d = record { within = w; apart = λ i b. d i (suc i) (le-refl (suc i)) b }
-
-pub links-digit-zero : (m : ℕ) (p : List ℕ) → links (digit m 0) p ≡ 0
+links-digit-zero : (m : ℕ) (p : List ℕ) → links (digit m 0) p ≡ 0
 links-digit-zero m p = links-zero (digit m 0) p (λ i l. rw (digit-zero m (getD p i 0)) (zero-mul _))
 
 -- one of two different digits is not digit k
@@ -48,7 +44,7 @@ one-product : (m k a b : ℕ) → k ≤ m → a ≤ m → b ≤ m → a ≢ b �
 one-product m k a b l la lb n (yes e) = rw (digit-one-off m k b l lb (omega arith)) (mul-zero _)
 one-product m k a b l la lb n (no e) = rw (digit-one-off m k a l la e) (zero-mul _)
 
-pub links-digit-one : (m k : ℕ) (p : List ℕ) → Good m p → k ≤ m → links (digit m (2 ^ (m - k))) p ≡ 0
+links-digit-one : (m k : ℕ) (p : List ℕ) → Good m p → k ≤ m → links (digit m (2 ^ (m - k))) p ≡ 0
 links-digit-one m k p g l = links-zero (digit m (2 ^ (m - k))) p (λ i b.
     one-product m k (getD p i 0) (getD p (suc i) 0) l (g .within i (omega arith)) (g .within (suc i) b) (g .apart i b)
     (ℕ-discrete (getD p i 0) k))
@@ -88,7 +84,7 @@ module _ (h m l : ℕ) (good : Good m (pathAt m (labelPath h m l))) where
   formAt-one zero a b = omega arith
   formAt-one (suc k) a b = rw (links-digit-one m (suc k) _ good b, linear-one h m l k b, mul-zero) (omega arith)
 
-  pub wordAt-one : (k : ℕ) → 1 ≤ k → k ≤ m →
+  wordAt-one : (k : ℕ) → 1 ≤ k → k ≤ m →
       wordAt h m l (2 ^ (m - k)) ≡ (coefficient h m l k + constant h l) % phases h
   unfolding wordAt
   wordAt-one k a b = rw (formAt-one k a b)

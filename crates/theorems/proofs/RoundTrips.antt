@@ -1,10 +1,9 @@
--- What the decoders and word reading answer to a word that was sent. In order: an answer is found from what it must
--- tell; hard decoding of a word with damage, and of a word as it was written; soft decoding of its clean values; word
--- reading.
--- Not here: that the word sent stays the nearest, or the greatest (crate signals, Damage and Noiseless), how far words
--- stand apart (crate distances).  Assumes nothing.
-use Prim.Native.Nat.{ℕ, _*_, _^_, _-_, _≤_, _<_}
-use native.Mathlib.Nat.{lt-of-lt-of-le}
+-- What the decoders and word reading answer to a word as it was written. In order: every answer tells what the one
+-- right answer tells; how far the word lies from itself and from others; hard decoding of the word, soft decoding of
+-- its clean values, and word reading; the same of what encode leaves in a slice.
+-- Not here: words with damage (Damage), that the word sent has the greatest correlation (crate signals, Noiseless), how
+-- far words stand apart (crate distances).  Assumes nothing.
+use Prim.Native.Nat.{ℕ, _*_, _≤_, _<_}
 use native.Mathlib.Omega.{arith}
 use mathlib.Core.Path.{_≡_, refl, sym, _∙_, ap, subst}
 use mathlib.Core.Bool.{true, false}
@@ -14,19 +13,19 @@ use lib.IntN.{ℤ, pos}
 use Rattle.rules.specs.Shape.{inShape, phases, carriers, messages}
 use Rattle.rules.specs.Label.{labels, labelOf}
 use Rattle.rules.specs.Word.{wordAt, wordOf, symbolAt}
-use Rattle.rules.specs.Distance.{hamming, lee, distance}
+use Rattle.rules.specs.Distance.{distance}
 use Rattle.rules.specs.Soft.{clean}
 use Rattle.rules.specs.Outcome.{gives, allowed}
 use Rattle.rules.specs.Table.{badSymbol}
 use Rattle.rules.specs.Refusal.{readOutcome, hardRefusal, orNoWord}
 use Rattle.rules.specs.Decoding.{Loud, Near}
 use Rattle.rules.proofs.Range.{InRange, inShape-range, range-inM}
+use Rattle.rules.proofs.Symbols.{wordAt-lt}
 use Rattle.signals.proofs.Metric.{distance-zero-of-agree, distance-comm, distance-triangle}
-use Rattle.signals.proofs.Damage.{nearest-of-damage}
 use Rattle.signals.proofs.Noiseless.{length-clean, greatest-of-clean}
 use Rattle.words.proofs.Labels.{labelOf-lt}
-use Rattle.words.proofs.Forms.{wordAt-lt, wordOf-at, wordOf-lt}
-use Rattle.distances.proofs.Apart.{hamming-apart, lee-apart, distance-apart}
+use Rattle.words.proofs.Forms.{wordOf-at, wordOf-lt}
+use Rattle.distances.proofs.Apart.{distance-apart}
 use Rattle.reader.specs.declared.Reading.{Reading}
 use Rattle.reader.specs.Told.{readingTold}
 use Rattle.reader.specs.Shown.{Word}
@@ -35,23 +34,13 @@ use Rattle.reader.proofs.ShownLaws.{messageWith-some}
 use Rattle.decoder.specs.declared.Heard.{Heard}
 use Rattle.decoder.specs.declared.Heard.the-variants.{Found as Heard·Found}
 use Rattle.decoder.specs.declared.Matched.{Matched}
-use Rattle.decoder.specs.declared.Matched.the-variants.{Found as Matched·Found}
 use Rattle.decoder.specs.Told.{heardTold, matchedTold, Hears, Matches}
-use Rattle.decoder.proofs.Outcomes.{soft-allowed, hard-allowed, hears-unique, matches-unique}
-use Rattle.decoder.proofs.Taken.{HardTaken, hard-taken}
+use Rattle.decoder.proofs.Outcomes.{soft-allowed, hard-allowed, hears-unique}
 use Rattle.theorems.specs.Theorems.{word, Encodes}
 use Rattle.theorems.proofs.Slices.{symbols-none, wordOf-symbols, done-shape, done-message, done-word}
+use Rattle.theorems.proofs.Damage.{matched-of-near, near-of-damage}
 
 -- what the one right answer tells is what every answer tells
-matched-of-near : (h m : ℕ) (w : List ℕ) (g d : ℕ) (t : Matched) → Near h m w g d false → Matches h m w t →
-    matchedTold t ≡ gives (g, d, false)
-matched-of-near h m w g d t near matches =
-    ap matchedTold (matches-unique h m w t (Matched·Found (record {
-      message = record { 0 = g };
-      distance = d;
-      tied = false;
-    })) matches near)
-
 heard-of-loud : (h m : ℕ) (ys : List ℤ) (g : ℕ) (v : ℤ) (t : Heard) → Loud h m ys g v false → Hears h m ys t →
     heardTold t ≡ gives (g, v, false)
 heard-of-loud h m ys g v t loud hears =
@@ -60,38 +49,6 @@ heard-of-loud h m ys g v t loud hears =
       correlation = v;
       tied = false;
     })) hears loud)
-
--- the word sent is nearer than half its distance to any other
-module _ (h m g : ℕ) (w : List ℕ) (taken : hardRefusal h m w ≡ allowed) (inside : g < messages h m) where
-  near-of-damage : ((k : ℕ) → k < labels h m → k ≢ labelOf h m g →
-      2 * distance h (carriers m) (symbolAt w) (word h m g) < distance h (carriers m) (word h m g) (wordAt h m k)) →
-      Near h m w g (distance h (carriers m) (symbolAt w) (word h m g)) false
-  near-of-damage apart =
-      let s : HardTaken h m w = hard-taken h m w taken in
-      record {
-        taken = taken;
-        inside = inside;
-        nearest = nearest-of-damage h m w (labelOf h m g) (inShape-range h m (s .shape) .h-least)
-            (labelOf-lt h m g inside) (s .inside) apart;
-      }
-
-pub damage-two : (m g : ℕ) (w : List ℕ) (t : Matched) → hardRefusal 1 m w ≡ allowed → g < messages 1 m →
-    2 * hamming (carriers m) (symbolAt w) (word 1 m g) < 2 ^ (m - 2) → Matches 1 m w t →
-    matchedTold t ≡ gives (g, hamming (carriers m) (symbolAt w) (word 1 m g), false)
-unfolding distance
-damage-two m g w t taken inside small =
-    let r = inShape-range 1 m (hard-taken 1 m w taken .shape) in
-    matched-of-near 1 m w g _ t (near-of-damage 1 m g w taken inside (λ k b n. lt-of-lt-of-le small
-    (hamming-apart 1 m (labelOf 1 m g) k (r .h-least) (range-inM 1 m r) (labelOf-lt 1 m g inside) b (λ e. n (sym e)))))
-
-pub damage-four : (m g : ℕ) (w : List ℕ) (t : Matched) → hardRefusal 2 m w ≡ allowed → g < messages 2 m →
-    2 * lee 2 (carriers m) (symbolAt w) (word 2 m g) < 2 ^ (m - 1) → Matches 2 m w t →
-    matchedTold t ≡ gives (g, lee 2 (carriers m) (symbolAt w) (word 2 m g), false)
-unfolding distance
-damage-four m g w t taken inside small =
-    let r = inShape-range 2 m (hard-taken 2 m w taken .shape) in
-    matched-of-near 2 m w g _ t (near-of-damage 2 m g w taken inside (λ k b n. lt-of-lt-of-le small
-    (lee-apart 2 m (labelOf 2 m g) k (omega arith) (range-inM 2 m r) (labelOf-lt 2 m g inside) b (λ e. n (sym e)))))
 
 -- a word as it was written
 module _ (h m g : ℕ) (shape : inShape h m ≡ true) (inside : g < messages h m) where
@@ -106,7 +63,7 @@ module _ (h m g : ℕ) (shape : inShape h m ≡ true) (inside : g < messages h m
 
   sent-same : distance h N (symbolAt sent) (word h m g) ≡ 0
   sent-same =
-      distance-zero-of-agree h N (range .h-least) (symbolAt sent) (word h m g) (wordOf-lt h m g)
+      distance-zero-of-agree h N (symbolAt sent) (word h m g) (wordOf-lt h m g)
       (λ i _. wordAt-lt h m (labelOf h m g) i) (wordOf-at h m g)
 
   -- how far the word of any other label is from it
@@ -122,8 +79,8 @@ module _ (h m g : ℕ) (shape : inShape h m ≡ true) (inside : g < messages h m
         arith,
         sent-same,
         sent-apart k b n,
-        distance-comm h N (range .h-least) (symbolAt sent) (word h m g) (wordOf-lt h m g) below,
-        distance-triangle h N (range .h-least) (word h m g) (symbolAt sent) below (wordOf-lt h m g) (wordAt h m k)
+        distance-comm h N (symbolAt sent) (word h m g) (wordOf-lt h m g) below,
+        distance-triangle h N (word h m g) (symbolAt sent) below (wordOf-lt h m g) (wordAt h m k)
             (λ i _. wordAt-lt h m k i),
       )
 

@@ -1,9 +1,9 @@
--- `trips::paired_back` meets its contract: it hands on what encode, partner and check ensure.
+-- `trips::check_back` meets its contract: it hands on what encode, partner and check ensure.
 -- Assumes nothing.
 use borrow.Author.Needs.{needs}
-use Rattle.trips.proofs.TripLaws.{paired-trip}
-use Rattle.trips.proofs.paired_back.Statement.{statement}
-use Rattle.trips.proofs.paired_back.Tie as tie
+use Rattle.trips.proofs.TripLaws.{check-trip}
+use Rattle.trips.proofs.check_back.Statement.{statement}
+use Rattle.trips.proofs.check_back.Tie as tie
 
 encode-requires : tie.Need-encode-requires
 encode-requires c κs = search needs
@@ -29,8 +29,8 @@ encoded c = c .before .before .before .before
 
 returns : tie.Need-returns
 returns c =
-    paired-trip (encoded (partnered c) .encode .ensures) (partnered c .partner .ensures) (c .check .ensures .0)
+    check-trip (encoded (partnered c) .encode .ensures) (partnered c .partner .ensures) (c .check .ensures .0)
 
-pub paired-back-spec : {M : Type 1} → statement M
-paired-back-spec =
+pub check-back-spec : {M : Type 1} → statement M
+check-back-spec =
     tie.close (tie.spec encode-requires partner-requires check-requires same-length same-length-2 returns)

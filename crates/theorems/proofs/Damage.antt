@@ -1,0 +1,69 @@
+-- Hard decoding of a word with damage. In order: every answer tells what the one right answer tells; the message sent
+-- is that answer where the damage is below half of every distance; so where it is below half of the least distance, by
+-- differing places and by Lee weight.
+-- Not here: that the word sent stays the nearest (crate signals, Damage), how far words stand apart (crate distances),
+-- words as they were written (RoundTrips).  Assumes nothing.
+use Prim.Native.Nat.{ℕ, _*_, _^_, _-_, _<_}
+use native.Mathlib.Nat.{lt-of-lt-of-le}
+use native.Mathlib.Omega.{arith}
+use mathlib.Core.Path.{_≡_, sym, ap}
+use mathlib.Core.Bool.{false}
+use mathlib.Core.List.{List}
+use mathlib.Core.Logic.{_≢_}
+use Rattle.rules.specs.Shape.{carriers, messages}
+use Rattle.rules.specs.Label.{labels, labelOf}
+use Rattle.rules.specs.Word.{wordAt, symbolAt}
+use Rattle.rules.specs.Distance.{hamming, lee, distance}
+use Rattle.rules.specs.Outcome.{gives, allowed}
+use Rattle.rules.specs.Refusal.{hardRefusal}
+use Rattle.rules.specs.Decoding.{Near}
+use Rattle.rules.proofs.Range.{inShape-range, range-inM}
+use Rattle.signals.proofs.Damage.{nearest-of-damage}
+use Rattle.words.proofs.Labels.{labelOf-lt}
+use Rattle.distances.proofs.Apart.{hamming-apart, lee-apart}
+use Rattle.decoder.specs.declared.Matched.{Matched}
+use Rattle.decoder.specs.declared.Matched.the-variants.{Found as Matched·Found}
+use Rattle.decoder.specs.Told.{matchedTold, Matches}
+use Rattle.decoder.proofs.Outcomes.{matches-unique}
+use Rattle.decoder.proofs.Taken.{HardTaken, hard-taken}
+use Rattle.theorems.specs.Theorems.{word}
+
+-- what the one right answer tells is what every answer tells
+pub matched-of-near : (h m : ℕ) (w : List ℕ) (g d : ℕ) (t : Matched) → Near h m w g d false → Matches h m w t →
+    matchedTold t ≡ gives (g, d, false)
+matched-of-near h m w g d t near matches =
+    ap matchedTold (matches-unique h m w t (Matched·Found (record {
+      message = record { 0 = g };
+      distance = d;
+      tied = false;
+    })) matches near)
+
+module _ (h m g : ℕ) (w : List ℕ) (taken : hardRefusal h m w ≡ allowed) (inside : g < messages h m) where
+  pub near-of-damage : ((k : ℕ) → k < labels h m → k ≢ labelOf h m g →
+      2 * distance h (carriers m) (symbolAt w) (word h m g) < distance h (carriers m) (word h m g) (wordAt h m k)) →
+      Near h m w g (distance h (carriers m) (symbolAt w) (word h m g)) false
+  near-of-damage apart =
+      let s : HardTaken h m w = hard-taken h m w taken in
+      record {
+        taken = taken;
+        inside = inside;
+        nearest = nearest-of-damage h m w (labelOf h m g) (labelOf-lt h m g inside) (s .inside) apart;
+      }
+
+pub damage-two : (m g : ℕ) (w : List ℕ) (t : Matched) → hardRefusal 1 m w ≡ allowed → g < messages 1 m →
+    2 * hamming (carriers m) (symbolAt w) (word 1 m g) < 2 ^ (m - 2) → Matches 1 m w t →
+    matchedTold t ≡ gives (g, hamming (carriers m) (symbolAt w) (word 1 m g), false)
+unfolding distance
+damage-two m g w t taken inside small =
+    let r = inShape-range 1 m (hard-taken 1 m w taken .shape) in
+    matched-of-near 1 m w g _ t (near-of-damage 1 m g w taken inside (λ k b n. lt-of-lt-of-le small
+    (hamming-apart 1 m (labelOf 1 m g) k (r .h-least) (range-inM 1 m r) (labelOf-lt 1 m g inside) b (λ e. n (sym e)))))
+
+pub damage-four : (m g : ℕ) (w : List ℕ) (t : Matched) → hardRefusal 2 m w ≡ allowed → g < messages 2 m →
+    2 * lee 2 (carriers m) (symbolAt w) (word 2 m g) < 2 ^ (m - 1) → Matches 2 m w t →
+    matchedTold t ≡ gives (g, lee 2 (carriers m) (symbolAt w) (word 2 m g), false)
+unfolding distance
+damage-four m g w t taken inside small =
+    let r = inShape-range 2 m (hard-taken 2 m w taken .shape) in
+    matched-of-near 2 m w g _ t (near-of-damage 2 m g w taken inside (λ k b n. lt-of-lt-of-le small
+    (lee-apart 2 m (labelOf 2 m g) k (omega arith) (range-inM 2 m r) (labelOf-lt 2 m g inside) b (λ e. n (sym e)))))

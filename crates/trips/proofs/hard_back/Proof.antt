@@ -1,0 +1,25 @@
+-- `trips::hard_back` meets its contract: it hands on what encode and hard ensure.
+-- Assumes nothing.
+use borrow.Author.Needs.{needs}
+use Rattle.trips.proofs.TripLaws.{hard-trip}
+use Rattle.trips.proofs.hard_back.Statement.{statement}
+use Rattle.trips.proofs.hard_back.Tie as tie
+
+encode-requires : tie.Need-encode-requires
+encode-requires c κs = search needs
+
+hard-requires : tie.Need-hard-requires
+hard-requires c κs = search needs
+
+same-length : tie.Need-same-length
+same-length c = search needs
+
+-- the call before
+abbrev encoded : tie.After-hard → tie.After-encode
+encoded c = c .before .before .before .before
+
+returns : tie.Need-returns
+returns c = hard-trip (encoded c .encode .ensures) (c .hard .ensures .0)
+
+pub hard-back-spec : {M : Type 1} → statement M
+hard-back-spec = tie.close (tie.spec encode-requires hard-requires same-length returns)
