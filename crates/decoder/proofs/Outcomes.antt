@@ -1,7 +1,7 @@
 -- What soft and hard decoding are to answer on each way out, and that only one answer keeps each promise.
 -- In order: soft decoding refused by its shape, for eight phases, by its length, and not refused; hard decoding, with a
--- symbol refused too; whole numbers that are no more than each other; soft decoding: its
--- answer is unique, and found where nothing is refused; the same of hard decoding.
+-- symbol refused too; whole numbers that are no more than each other; soft decoding: its answer is unique, and found
+-- where nothing is refused; the same of hard decoding.
 -- Not here: what holds where nothing is refused (Taken).  Assumes nothing.
 use Prim.Native.Nat.{ℕ}
 use native.Mathlib.Nat.{le-antisymm}

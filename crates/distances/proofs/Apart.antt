@@ -1,7 +1,7 @@
 -- THE LAW of distances: the words of two labels lie far apart. In order: two words that lie closer are of the same
 -- path, coefficients and constant, so of the same label; the law for any weight of differences; for differing places,
--- which are a quarter of all at least; for Lee distance, which is half the number of places at least; for 01's
--- distance, which is not 0.
+-- which are a quarter of all at least; for Lee distance from four phases on, which is half the number of places at
+-- least; for 01's distance, which is not 0.
 -- Not here: what a difference in one part weighs (Parts), that equal words are of one label (Inject).  Assumes nothing.
 use Prim.Native.Nat.{ℕ, _-_, _*_, _%_, _^_, _≤_, _<_}
 use native.Mathlib.Nat.{le-refl, mul-le-mul}

@@ -1,12 +1,12 @@
--- 001's Theorem 2: at every moment of the symbol period the envelope powers of the two words of a Golay pair add up to
--- 2 N: to 2 N at coordinate 0, and to 0 at the others.
+-- The equation in the proof of 001's Theorem 2: at every moment s / 2^r of the symbol period the envelope powers of the
+-- two words of a Golay pair add up to 2 N: to 2 N at coordinate 0, and to 0 at the others.
 -- Defines:  between r e i j          symbol i minus symbol j of a word e of 2^r phases
 --           square r n e t           coordinate t of the sum of the powers of these differences, over i and j below n
 --           squareCount r n e k      how many of them are k, modulo 2^r
 --           hitsBetween r e f k i j  how many of the two words' differences at i and j are k
 -- In order: a square as two counts, and the counts of two words together; where the words are a pair, their counts half
 -- a turn on, at each shift, backwards, and over the square, which is left with its diagonal; the two squares together,
--- which are the two autocorrelations at shift 0; the theorem.
+-- which are the two autocorrelations at shift 0; the equation.
 -- Not here: that the phases at a moment are a pair (Moments).  Assumes nothing.
 use Prim.Native.Nat.{ℕ, _+_, _-_, _*_, _%_, _≤_, _<_}
 use native.Mathlib.Nat.{add-zero, sub-zero, add-comm}

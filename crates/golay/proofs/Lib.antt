@@ -1,5 +1,5 @@
--- Laws of Golay pairs: a word and its partner are one, pairs are words whose autocorrelations cancel, and at every
--- moment the envelope powers of a pair add up to 2 N.
+-- Laws of Golay pairs: a word and its partner are a pair, pairs are words whose autocorrelations cancel, and at every
+-- moment s / 2^r the envelope powers of a pair add up to 2 N.
 pub mod Powers
 pub mod Autocorrelations
 pub mod Residues

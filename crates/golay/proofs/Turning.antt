@@ -6,6 +6,7 @@
 --           CancelAt h a b u i t  the places i and t cancel
 --           Turning h n a b u τ   τ is such a map
 --           hits h d e k          how many of the differences d and e are k, modulo 2^h
+--           hitsAt h a b u k i    the hits of k among the two words' differences at place i
 -- In order: differences are phases; the counts as a sum over the places; half a turn on in a difference and in what it
 -- is compared with; a place and its image; the counts.
 -- Not here: the map for a word and its partner (Mates), and that it is such a map (LabelPairs).  Assumes nothing.

@@ -1,5 +1,5 @@
 -- Laws of the digits of a place: rules' Place. In order: bounds; the last digit and the others, and the place from its
--- digits; bits of a power of two, and of a sum with one; the digits of place 0, and of a place with one digit.
+-- digits; bits of a power of two, and of a sum with one; the digits of place 0, and of a place with one digit 1 alone.
 -- Not here: two places that differ in one digit (Twins), one digit turned over (Flips); words' labels (Labels) and
 -- words (Readings).  Assumes nothing.
 use Prim.Native.Nat.{ℕ, zero, suc, _+_, _-_, _/_, _%_, _^_, _≤_, _<_}

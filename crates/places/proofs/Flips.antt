@@ -1,6 +1,7 @@
--- One digit of a place, x_k, turned over. In order: the place that has it so, where the digit is 0 and where it is 1;
--- it is a place; its digits; turned over twice; two places with the same digit x_k keep their distance, and balance; a
--- sum over the places with the digit turned over.
+-- One digit of a place, x_k, turned over.
+-- Defines:  flip m k i    place i with its digit x_k turned over
+-- In order: it, where the digit is 0 and where it is 1; it is a place; its digits; turned over twice; two places with
+-- the same digit x_k keep their distance, and their digits balance; a sum over the places with the digit turned over.
 -- Not here: the two places as a first and a second (Twins), sums over any involution (range's Involutions).
 -- Assumes nothing.
 use Prim.Native.Nat.{ℕ, _+_, _-_, _^_, _≤_, _<_}

@@ -1,7 +1,7 @@
 -- Two places that differ in one digit, x_k: the first has 0 there, and the second, 2^(m-k) on, has 1. In order: the
 -- places counted in blocks; the second place of a pair is a place, and stands behind the first; the digit x_k of both;
 -- their other digits, which are the same.
--- Not here: the digits of a place with one digit (Digits), from either place to the other (Flips).
+-- Not here: the digits of a place with one digit 1 alone (Digits), from either place to the other (Flips).
 -- Assumes nothing.
 use Prim.Native.Nat.{ℕ, zero, suc, _+_, _-_, _*_, _/_, _%_, _^_, _≤_, _<_}
 use native.Mathlib.Nat.{div-lt-iff-lt-mul, le-div-iff-mul-le, add-div-right, add-comm, pow-suc}
@@ -56,7 +56,7 @@ digit-first m k i e =
     ap (λ (n : ℕ). n / 2 ^ (m - k)) (sym (place-second m k i e)) ∙ add-div-right j (pow-pos (m - k)) in
     omega arith
 
--- a lowest bit of 0 that is set to 1 shows in no higher bit
+-- a bit that is 0, set to 1, shows in no higher bit
 bit-over : (x s u : ℕ) → s < u → x / 2 ^ s % 2 ≡ 0 → (x + 2 ^ s) / 2 ^ u ≡ x / 2 ^ u
 bit-over x s u h e =
     let d : ℕ = u - suc s in

@@ -1,4 +1,4 @@
--- Sums modulo q. In order: two equal sums; an equal summand added; a summand and what completes it to a multiple; an
+-- Sums modulo q. In order: equal summands; an equal summand added; a summand and what completes it to a multiple; an
 -- equal summand taken off; multiples of c modulo c q.
 -- Assumes nothing.
 use Prim.Native.Nat.{ℕ, suc, _+_, _-_, _*_, _/_, _%_, _<_}

@@ -1,7 +1,7 @@
 -- Natural numbers and whole numbers a constant apart. In order: sums of natural numbers as whole numbers; two
 -- differences added; sums of differences, and of a constant; sums whose summands are a constant apart; taking the
--- constant away again; equal differences; two numbers raised by the same constant are equal, or in order, where the two
--- from which they are raised are.
+-- constant away again; equal differences; two numbers, both raised by one constant: they are equal exactly where the
+-- raised ones are, and in order where those are.
 -- Not here: other laws of sums (Sums, SumsSigned).  Assumes nothing.
 use Prim.Native.Nat.{ℕ, zero, suc, _+_, _-_, _*_, _≤_, _<_}
 use native.Mathlib.Omega.{arith}

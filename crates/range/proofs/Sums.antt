@@ -1,7 +1,7 @@
 -- Laws of sumBelow and countBelow. In order: one more summand at the end; two parts; equal summands; a constant;
--- zeros; equal summands but one, and zeros but one; two sums as one, and summands that add up to a constant; multiples
--- of a constant; greater summands; a bound from above, and from below; the same of counts; one turn of a loop that adds
--- up; what lies below the whole sum.
+-- zeros; equal summands but one, and zeros but one; two sums as one, and summands that add up to a constant; a constant
+-- factor; greater summands; a bound from above, and from below; counts: one more place, and a bound; one turn of a loop
+-- that adds up; what lies below the whole sum.
 -- Not here: sums of sums, and over an involution (Involutions), tests and searches (Tests), lists (Lists).
 -- Assumes nothing.
 use Prim.Native.Nat.{ℕ, zero, suc, _+_, _*_, _≤_, _<_, zero-le, suc-le-suc}

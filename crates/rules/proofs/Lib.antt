@@ -1,6 +1,6 @@
--- Bounds of a shape in range and of symbols, laws of outcomes, of differences modulo q and of Best, the starred cases
--- of 01 as one list with one claim, and samples of the other rules. The other laws of the rules: crates places, paths,
--- words, golay, spectrum, signals, distances and totals.
+-- Bounds of a shape in range and of symbols, laws of outcomes, of half a turn, of differences modulo q, of Best and of
+-- soft values that are all zero, the starred cases of 01 as one list with one claim, and samples of the other rules.
+-- The other laws of the rules: crates places, paths, words, golay, spectrum, signals, distances, totals and pair.
 pub mod Range
 pub mod Symbols
 pub mod OutcomeLaws

@@ -56,13 +56,13 @@ unfolding distance hamming countBelow sumBelow wordAt formAt links pathAt paths 
     labelPath coefficient constant flatMap
 hard-sixteen = refl
 
--- four phases: 1 and i are the coordinates, and the powers of i are 1, i, -1, -i
+-- four phases: 1 and j are the coordinates, and the powers of j are 1, j, -1, -j
 four-powers : listBelow 4 (λ e. listBelow 2 (phasePower 2 e)) ≡
     (pos 1 ∷ pos 0 ∷ []) ∷ (pos 0 ∷ pos 1 ∷ []) ∷ (negsuc 0 ∷ pos 0 ∷ []) ∷ (pos 0 ∷ negsuc 0 ∷ []) ∷ []
 unfolding listBelow phasePower turned
 four-powers = refl
 
--- the starred pair 0002, 0020 of 01: at shifts 0, 1, 2, 3 they have 4, 1, 0, -1 and 4, -1, 0, 1, each with no i, which
+-- the starred pair 0002, 0020 of 01: at shifts 0, 1, 2, 3 they have 4, 1, 0, -1 and 4, -1, 0, 1, each with no j, which
 -- cancel from shift 1 on
 word-shifts : listBelow 4 (λ u. listBelow 2 (autocorrelation 2 4 (symbolAt (0 ∷ 0 ∷ 0 ∷ 2 ∷ [])) u)) ≡
     (pos 4 ∷ pos 0 ∷ []) ∷ (pos 1 ∷ pos 0 ∷ []) ∷ (pos 0 ∷ pos 0 ∷ []) ∷ (negsuc 0 ∷ pos 0 ∷ []) ∷ []
@@ -74,12 +74,12 @@ partner-shifts : listBelow 4 (λ u. listBelow 2 (autocorrelation 2 4 (symbolAt (
 unfolding listBelow autocorrelation sumℤ minus phasePower turned
 partner-shifts = refl
 
--- the later symbol is taken from the earlier one: 0 - 1 is three quarters of a turn, -i
+-- the later symbol is taken from the earlier one: 0 - 1 is three quarters of a turn, -j
 later-taken-away : listBelow 2 (autocorrelation 2 2 (symbolAt (0 ∷ 1 ∷ [])) 1) ≡ pos 0 ∷ negsuc 0 ∷ []
 unfolding listBelow autocorrelation sumℤ minus phasePower turned
 later-taken-away = refl
 
--- the same pair at moments 0 and 1/4: 1 + 1 + 1 - 1 and 1 + i - 1 + i, 1 + 1 - 1 + 1 and 1 + i + 1 - i. All have power
+-- the same pair at moments 0 and 1/4: 1 + 1 + 1 - 1 and 1 + j - 1 + j, 1 + 1 - 1 + 1 and 1 + j + 1 - j. All have power
 -- 4, and 4 + 4 is 2 N
 word-powers : listBelow 2 (λ s. listBelow 2 (envelopePower 2 4 (symbolAt (0 ∷ 0 ∷ 0 ∷ 2 ∷ [])) 2 s)) ≡
     (pos 4 ∷ pos 0 ∷ []) ∷ (pos 4 ∷ pos 0 ∷ []) ∷ []
@@ -103,7 +103,7 @@ partner-eighth : listBelow 4 (envelopePower 2 4 (symbolAt (0 ∷ 0 ∷ 2 ∷ 0 �
 unfolding listBelow envelopePower phaseAt sumℤ minus phasePower turned
 partner-eighth = refl
 
--- symbols 0 and 1 at moment 1/4: the second carrier has turned on by a quarter, to 1 + i i = 0, and not back, to 1 + 1
+-- symbols 0 and 1 at moment 1/4: the second carrier has turned on by a quarter, to 1 + j j = 0, and not back, to 1 + 1
 moment-turns-on : listBelow 2 (envelopePower 2 2 (symbolAt (0 ∷ 1 ∷ [])) 2 1) ≡ pos 0 ∷ pos 0 ∷ []
 unfolding listBelow envelopePower phaseAt sumℤ minus phasePower turned
 moment-turns-on = refl

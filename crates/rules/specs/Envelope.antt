@@ -1,7 +1,7 @@
 -- The envelope power of a word, in whole numbers: 001 (3) and Theorem 2. Words are taken as functions of the place.
--- A symbol period has the moments s / 2^r, for every s and every r from h on. At such a moment each carrier stands at a
--- multiple of the phase with 2^r steps to a turn: carrier i has turned by s i steps since the period began. So the
--- power is a sum of powers of that phase, told by its coordinates as in Autocorrelation.
+-- The moments told of are s / 2^r of a symbol period, for every s and every r from h on. At such a moment each carrier
+-- stands at a power of the phase with 2^r steps to a turn: carrier i has turned by s i steps since the period began. So
+-- the envelope power is a sum of powers of that phase, told by its coordinates as in Autocorrelation.
 -- Defines:  phaseAt h a r s i           the phase of carrier i at moment s / 2^r, of 2^r
 --           envelopePower h n a r s     the coordinates of P_a at that moment: the sum over i and j of the phase of
 --                                       carrier i less that of carrier j

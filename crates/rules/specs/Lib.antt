@@ -1,4 +1,5 @@
--- Document 01 as definitions, a file for each subject, in the document's order.
+-- Document 01 as definitions, a file for each subject, in the document's order; Autocorrelation and Envelope say 001's
+-- condition and power.
 pub mod Shape
 pub mod Place
 pub mod Path

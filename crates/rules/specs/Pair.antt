@@ -8,7 +8,8 @@
 --                                  for k + 2^(h-1)
 --           phasesAgree h n a b u  whether at shift u the count for each phase equals the count half a turn on
 --           golayPair h m a b      the test of a pair: they agree at every shift
--- Laws: crate pair (golayPair-iff: the test is the claim), crate golay.  Assumes nothing: these are definitions.
+-- Laws: proofs/Differences.antt (minus), crate pair (golayPair-iff: the test is the claim), crate golay.
+-- Assumes nothing: these are definitions.
 use Prim.Native.Nat.{ℕ, suc, _+_, _-_, _%_, _≤_, _<_}
 use mathlib.Core.Path.{_≡_}
 use mathlib.Core.Bool.{Bool}

@@ -1,6 +1,6 @@
 -- Soft values with no noise: rules' clean. In order: how many there are; how large they are; the correlation with a
 -- word that agrees with the symbols, and with one that does not; so the word sent has the greatest, alone.
--- Not here: the correlation of soft values with no noise (Units).  Assumes nothing.
+-- Not here: the correlation with any word, by its distance (Units); what one symbol hears (Clean).  Assumes nothing.
 use Prim.Native.Nat.{ℕ, _+_, _-_, _*_, _/_, _%_, _≤_, _<_, zero-le}
 use native.Mathlib.Nat.{mul-zero, mul-pos, le-refl, le-div-iff-mul-le}
 use native.Mathlib.Decide.{decLt}

@@ -1,4 +1,4 @@
--- The theorems, proved: Proved has the whole index, the others what its claims about the calls need.
+-- The theorems, proved: Proved has the whole index, the others what its claims need.
 pub mod Slices
 pub mod Pairs
 pub mod Damage

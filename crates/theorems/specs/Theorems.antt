@@ -6,7 +6,8 @@
 -- nothing: a shape of two or four phases in range, N symbols, each below 2^h. An answer told as `gives (g, d, false)`
 -- is message g, with distance or correlation d, not tied. The words of the claims: rules Pair (`GolayPair`,
 -- `pairCount`), Autocorrelation (`autocorrelation`, `Cancel`), Distance (`hamming`, `lee`), Soft (`clean`), Best
--- (`Greatest`, `Nearest`), Envelope (`envelopePower`).
+-- (`Greatest`, `Nearest`), Envelope (`envelopePower`); transform's Remains (`RemainsOf`, of which the promised
+-- `Remains` is one case, and `SameBeside`).
 -- Defines:  word h m g, partner h m g    the word and the partner of message g, as functions of the place
 --           Symbols h m w         w is N symbols in range
 --           Encodes h m g d w     encode of message g writes, and leaves w in the slice that held d
@@ -83,7 +84,7 @@ OneOutcome {O} P = (o p : O) → P o → P p → o ≡ p
 pub record Theorems : Type 2 where
   -- 1. GOLAY PAIRS (demand 2; 001, Theorem 3). The word and the partner of every message of every shape are a pair.
   pub word-partner : (h m g : ℕ) → inShape h m ≡ true → g < messages h m → GolayPair h m (word h m g) (partner h m g)
-  -- Encode and partner write, for every message of every shape, wherever the slice has N places.
+  -- Encode writes the word and partner the partner, for every message of every shape, wherever the slice has N places.
   pub encode-writes : (h m g : ℕ) (d w : List ℕ) (r : Written) → inShape h m ≡ true → length d ≡ carriers m →
       g < messages h m → Sent h m g (wordOf h m g) d r w → (r ≡ Done) × (w ≡ wordOf h m g)
   pub partner-writes : (h m g : ℕ) (d w : List ℕ) (r : Written) → inShape h m ≡ true → length d ≡ carriers m →
@@ -94,8 +95,8 @@ pub record Theorems : Type 2 where
   -- A word paired with itself is never a pair, and never gets a yes.
   pub self-not-pair : (h m : ℕ) (a : ℕ → ℕ) → 1 ≤ h → 1 ≤ m → GolayPair h m a a → ⊥
   pub self-not-yes : (h m : ℕ) (w : List ℕ) (r : Paired) → pairedTold r ≡ pairOutcome h m w w → r ≢ Yes
-  -- 2. THE COUNTS ARE 001'S CONDITION (demand 2; 001, Definition 1). For any two words, every h and every shift u, they
-  -- agree at u exactly where C_a(u) + C_b(u) = 0.
+  -- 2. THE COUNTS ARE 001'S CONDITION (demand 2; 001, Definition 1). For any two words of any length, every h from 1 on
+  -- and every shift u, the counts agree at u exactly where C_a(u) + C_b(u) = 0.
   pub counts-iff-zero : (h n : ℕ) (a b : ℕ → ℕ) (u : ℕ) → 1 ≤ h →
       ((k : ℕ) → k < phases h → pairCount h n a b u k ≡ pairCount h n a b u (k + halfTurn h))
       ↔ ((t : ℕ) → t < halfTurn h → autocorrelation h n a u t +ℤ autocorrelation h n b u t ≡ pos 0)
@@ -116,7 +117,7 @@ pub record Theorems : Type 2 where
   pub damage-two : (m g : ℕ) (w : List ℕ) (r : Matched) → hardRefusal 1 m w ≡ allowed → g < messages 1 m →
       2 * hamming (carriers m) (symbolAt w) (word 1 m g) < 2 ^ (m - 2) → Matches 1 m w r →
       matchedTold r ≡ gives (g, hamming (carriers m) (symbolAt w) (word 1 m g), false)
-  -- Four phases: the same where twice the Lee weight of the damage is below 2^(m-1).
+  -- Four phases: the same with the Lee weight of the damage in place of the number, where twice it is below 2^(m-1).
   pub damage-four : (m g : ℕ) (w : List ℕ) (r : Matched) → hardRefusal 2 m w ≡ allowed → g < messages 2 m →
       2 * lee 2 (carriers m) (symbolAt w) (word 2 m g) < 2 ^ (m - 1) → Matches 2 m w r →
       matchedTold r ≡ gives (g, lee 2 (carriers m) (symbolAt w) (word 2 m g), false)
@@ -167,9 +168,10 @@ pub record Theorems : Type 2 where
       Nearest h m w (labelOf h m (a .message .0)) (a .distance) (a .tied)
   -- The partner is not the word itself.
   pub partner-not-word : (h m g : ℕ) → inShape h m ≡ true → g < messages h m → partnerOf h m g ≢ wordOf h m g
-  -- 7. PEAK POWER (the equation in the proof of 001's Theorem 2). At every moment s / 2^r of a symbol period the
-  -- envelope powers of word and partner add up to 2 N: 2 N at coordinate 0, and 0 at the others. Each is the square of
-  -- a size, so neither is above 2 N, as Theorem 2 says; that last step is one of real numbers, and is not stated here.
+  -- 7. PEAK POWER (the equation in the proof of 001's Theorem 2). At every moment s / 2^r of a symbol period, r from h
+  -- on, the envelope powers of word and partner add up to 2 N: 2 N at coordinate 0, and 0 at the others. Each is the
+  -- square of a size, so neither is above 2 N, as Theorem 2 says; that last step is one of real numbers, and is not
+  -- stated here.
   pub envelope-together : (h m g r s t : ℕ) → inShape h m ≡ true → g < messages h m → h ≤ r → t < halfTurn r →
       envelopePower h (carriers m) (word h m g) r s t +ℤ envelopePower h (carriers m) (partner h m g) r s t
       ≡ pos (2 * carriers m * oneIf (eqb t 0))

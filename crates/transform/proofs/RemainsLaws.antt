@@ -5,6 +5,7 @@
 --     behind-one        two records of one name, seen of one resource, tell the same tail
 --     behind-unique     the same of two records side by side: no two tails can be promised of one area
 --     finally-unique    no two last contents can be promised of one area. The kit's `finally-one`, side by side
+--     one-whole         of one area whole and of another behind its front, no two endings can be promised together
 --     remains-unique    no two endings can be promised of the two areas of a transform
 -- Not here: what the lender makes of them (Lender).  The lemmas on lists assume nothing. The others: Assumes `Given`.
 use Prim.Native.Nat.{ℕ}
@@ -31,7 +32,7 @@ use denote.Slice.{Holeys, heres, codedHoleys, finally}
 use denote.ExitLaws.{finally-one}
 use Rattle.transform.specs.Remains.{Behind, RemainsOf, SameBeside}
 
--- two lists joined are equal, and the first two are as long: so the second two are equal
+-- two joined lists are equal, and their first parts are equally long: so their second parts are equal
 seam : {X : Type 0} (xs xs′ ys ys′ : List X) → length xs ≡ length xs′ → xs ++ ys ≡ xs′ ++ ys′ → ys ≡ ys′
 seam {X} xs xs′ ys ys′ l e =
     sym (drop-append-seam xs ys) ∙ ap (λ (zs : List X). drop-list (length xs) zs) e

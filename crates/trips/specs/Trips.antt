@@ -2,7 +2,7 @@
 -- refused.
 -- Defines:  written h m g d w     what encode or partner leaves in a slice that held d, of a word w for message g
 --           ReadBack, HardBack, CheckBack    the promises, of slices before and after and the answer r
--- Assumes nothing: these are definitions.
+-- Laws: proofs/TripLaws.antt (only one outcome keeps each).  Assumes nothing: these are definitions.
 use Prim.Native.Nat.{ℕ, _≤_}
 use mathlib.Core.Path.{_≡_}
 use mathlib.Core.Bool.{false}

@@ -1,5 +1,5 @@
-// Round trips as code: what a sender and a receiver call one after the other, and what comes back. Each promise is a
-// theorem of the index (crate theorems) about the very calls. What they promise is in specs/Trips.antt.
+// Round trips as code: what a sender and a receiver call one after the other, and what comes back. That it comes back
+// is a theorem of the index (crate theorems), here of the very calls. What they promise is in specs/Trips.antt.
 use decoder::Matched;
 use kinds::MessageNumber;
 use pair::Paired;
@@ -16,7 +16,7 @@ pub fn read_back(h: u32, m: u32, message: MessageNumber, word: &mut [u8]) -> Rea
 }
 
 // Encodes a message and decodes the word: the message comes back at distance 0, not tied. Eight phases are refused 6
-// by the decoder.
+// by the decoder. Where encode refuses, the slice stays as it was, and is decoded so.
 pub fn hard_back(h: u32, m: u32, message: MessageNumber, word: &mut [u8]) -> Matched
     ensures { λ r. ⌜ HardBack h m (message .0) (now (word .entry)) r (now (word .exit)) ⌝ }
 {
@@ -24,7 +24,8 @@ pub fn hard_back(h: u32, m: u32, message: MessageNumber, word: &mut [u8]) -> Mat
     decoder::hard(h, m, word)
 }
 
-// Writes a message's word and its partner, and checks them: they are a pair.
+// Writes a message's word and its partner, and checks them: they are a pair. Where encode or partner refuses, its slice
+// stays as it was, and is checked so.
 pub fn check_back(
     h: u32,
     m: u32,

@@ -1,5 +1,6 @@
 -- The step before the first digit of a list at which two functions differ: what stands around it is odd in sum.
 -- Defines:  stepBefore x y c p    the step before the first of p at which x and y differ, where c comes before p
+--           both x y p s          what stands around s in p, for x and for y, added up
 -- In order: x and y agree at the step before; it is in the list; it depends on where x and y differ alone; what stands
 -- around what is absent, around the head, and past a head at which x and y agree; functions that agree at the head and
 -- in the rest; what stands around the step before.
