@@ -33,16 +33,16 @@ use Rattle.pair.specs.Told.{pairedTold}
 use Rattle.pair.proofs.Pairs.{golayPair-iff, golayPair-cong, golayPair-self}
 use Rattle.pair.proofs.Outcomes.{Sized, pair-given, pair-gives}
 use Rattle.pair.proofs.Told.{pairedTold-inj}
-use Rattle.theorems.specs.Theorems.{word, partner, Symbols, Encodes, Partners}
-use Rattle.theorems.proofs.Slices.{symbols-none, wordOf-symbols, partnerOf-symbols, done-shape, done-message}
-use Rattle.theorems.proofs.Slices.{done-word}
+use Rattle.reader.specs.Shown.{Word}
+use Rattle.theorems.specs.Theorems.{word, partner, Encodes, Partners}
+use Rattle.theorems.proofs.Slices.{word-none, wordOf-word, partnerOf-word, done-shape, done-message, done-word}
 
 -- of two words in range the test of a pair is told
-pair-tested : (h m : ℕ) (w v : List ℕ) → inShape h m ≡ true → Symbols h m w → Symbols h m v →
+pair-tested : (h m : ℕ) (w v : List ℕ) → Word h m w → Word h m v →
     gives (golayPair h m (symbolAt w) (symbolAt v)) ≡ pairOutcome h m w v
-pair-tested h m w v shape a b =
-    let s : Sized h m (phases h) w v = record { shape = shape; turn = refl; first = a .long; second = b .long } in
-    pair-given h m (phases h) w v s (symbols-none h m w a) (symbols-none h m v b)
+pair-tested h m w v a b =
+    let s : Sized h m (phases h) w v = record { shape = a .shape; turn = refl; first = a .long; second = b .long } in
+    pair-given h m (phases h) w v s (word-none h m w a) (word-none h m v b)
 
 module _ (h m g : ℕ) (shape : inShape h m ≡ true) (taken : g < messages h m) where
   pub word-partner : GolayPair h m (word h m g) (partner h m g)
@@ -63,7 +63,7 @@ module _ (h m g : ℕ) (shape : inShape h m ≡ true) (taken : g < messages h m)
   lists-yes : gives true ≡ pairOutcome h m (wordOf h m g) (partnerOf h m g)
   lists-yes =
       ap gives (sym lists-pair)
-      ∙ pair-tested h m (wordOf h m g) (partnerOf h m g) shape (wordOf-symbols h m g) (partnerOf-symbols h m g)
+      ∙ pair-tested h m (wordOf h m g) (partnerOf h m g) (wordOf-word h m g shape) (partnerOf-word h m g shape)
 
 pub written-yes : (h m g : ℕ) (d e w v : List ℕ) (t : Paired) → Encodes h m g d w → Partners h m g e v →
     pairedTold t ≡ pairOutcome h m w v → t ≡ Yes
@@ -80,12 +80,12 @@ self-not-yes h m w t told e =
     let r = inShape-range h m (given .0) in
     self-not-pair h m (symbolAt w) (r .h-least) (omega (arith, r .m-least)) (golayPair-iff h m _ _ .0 (given .1))
 
-pub yes-iff-cancel : (h m : ℕ) (w v : List ℕ) (r : Paired) → inShape h m ≡ true → Symbols h m w → Symbols h m v →
+pub yes-iff-cancel : (h m : ℕ) (w v : List ℕ) (r : Paired) → Word h m w → Word h m v →
     pairedTold r ≡ pairOutcome h m w v → (r ≡ Yes) ↔ Cancel h m (symbolAt w) (symbolAt v)
-yes-iff-cancel h m w v r shape a b told =
-    let same = golayPair-iff-cancel h m (symbolAt w) (symbolAt v) (inShape-range h m shape .h-least) in
+yes-iff-cancel h m w v r a b told =
+    let same = golayPair-iff-cancel h m (symbolAt w) (symbolAt v) (inShape-range h m (a .shape) .h-least) in
     let test = golayPair-iff h m (symbolAt w) (symbolAt v) in
-    let given = told ∙ sym (pair-tested h m w v shape a b) in (
+    let given = told ∙ sym (pair-tested h m w v a b) in (
       λ e. same .0 (test .0 (gives-inj (sym given ∙ ap pairedTold e))),
       λ cancel. pairedTold-inj r Yes (given ∙ ap gives (test .1 (same .1 cancel))),
     )

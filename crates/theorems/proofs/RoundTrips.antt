@@ -28,7 +28,6 @@ use Rattle.words.proofs.Forms.{wordOf-at, wordOf-lt}
 use Rattle.distances.proofs.Apart.{distance-apart}
 use Rattle.reader.specs.declared.Reading.{Reading}
 use Rattle.reader.specs.Told.{readingTold}
-use Rattle.reader.specs.Shown.{Word}
 use Rattle.reader.proofs.Outcomes.{read-search}
 use Rattle.reader.proofs.ShownLaws.{messageWith-some}
 use Rattle.decoder.specs.declared.Heard.{Heard}
@@ -37,7 +36,7 @@ use Rattle.decoder.specs.declared.Matched.{Matched}
 use Rattle.decoder.specs.Told.{heardTold, matchedTold, Hears, Matches}
 use Rattle.decoder.proofs.Outcomes.{soft-allowed, hard-allowed, hears-unique}
 use Rattle.theorems.specs.Theorems.{word, Encodes}
-use Rattle.theorems.proofs.Slices.{symbols-none, wordOf-symbols, done-shape, done-message, done-word}
+use Rattle.theorems.proofs.Slices.{word-none, wordOf-word, done-shape, done-message, done-word}
 use Rattle.theorems.proofs.Damage.{matched-of-near, near-of-damage}
 
 -- what the one right answer tells is what every answer tells
@@ -87,9 +86,9 @@ module _ (h m g : ℕ) (shape : inShape h m ≡ true) (inside : g < messages h m
   sent-near : h ≤ 2 → Near h m sent g 0 false
   unfolding badSymbol
   sent-near two =
-      let s = wordOf-symbols h m g in
+      let is = wordOf-word h m g shape in
       let taken : hardRefusal h m sent ≡ allowed =
-      hard-allowed h m sent shape (λ e. omega (arith, e)) (s .long) (symbols-none h m sent s) in
+      hard-allowed h m sent shape (λ e. omega (arith, e)) (is .long) (word-none h m sent is) in
       subst (λ (d : ℕ). Near h m sent g d false) sent-same
       (near-of-damage h m g sent taken inside (λ k b n. rw sent-same (sent-apart k b n)))
 
@@ -103,14 +102,9 @@ module _ (h m g : ℕ) (shape : inShape h m ≡ true) (inside : g < messages h m
 
   sent-read : gives g ≡ readOutcome h m sent
   sent-read =
-      let s = wordOf-symbols h m g in
-      let is : Word h m sent = record {
-        shape = shape;
-        long = s .long;
-        symbols = λ i l. s .inside i (subst (λ (n : ℕ). i < n) (s .long) l);
-      } in
+      let is = wordOf-word h m g shape in
       ap orNoWord (sym (messageWith-some h m sent is g inside refl))
-      ∙ read-search h m sent shape (s .long) (symbols-none h m sent s)
+      ∙ read-search h m sent shape (is .long) (word-none h m sent is)
 
 pub hard-back : (h m g : ℕ) (d w : List ℕ) (t : Matched) → h ≤ 2 → Encodes h m g d w → Matches h m w t →
     matchedTold t ≡ gives (g, 0, false)

@@ -6,10 +6,9 @@
 -- nothing: a shape of two or four phases in range, N symbols, each below 2^h. An answer told as `gives (g, d, false)`
 -- is message g, with distance or correlation d, not tied. The words of the claims: rules Pair (`GolayPair`,
 -- `pairCount`), Autocorrelation (`autocorrelation`, `Cancel`), Distance (`hamming`, `lee`), Soft (`clean`), Best
--- (`Greatest`, `Nearest`), Envelope (`envelopePower`); transform's Remains (`RemainsOf`, of which the promised
--- `Remains` is one case, and `SameBeside`).
+-- (`Greatest`, `Nearest`), Envelope (`envelopePower`); reader's Shown (`Word`: N symbols in range, of a shape in
+-- range); transform's Remains (`RemainsOf`, of which the promised `Remains` is one case, and `SameBeside`).
 -- Defines:  word h m g, partner h m g    the word and the partner of message g, as functions of the place
---           Symbols h m w         w is N symbols in range
 --           Encodes h m g d w     encode of message g writes, and leaves w in the slice that held d
 --           Partners h m g d w    the same of partner
 --           OneOutcome P          at most one outcome satisfies P; that there is one is what the call does
@@ -51,6 +50,7 @@ use Rattle.pair.specs.declared.Paired.the-variants.{Yes}
 use Rattle.pair.specs.Told.{pairedTold}
 use Rattle.reader.specs.declared.Reading.{Reading}
 use Rattle.reader.specs.Told.{readingTold}
+use Rattle.reader.specs.Shown.{Word}
 use Rattle.transform.specs.declared.Judged.{Judged}
 use Rattle.transform.specs.Told.{judgedTold, Ran, Handed}
 use Rattle.transform.specs.Remains.{RemainsOf, SameBeside}
@@ -67,10 +67,6 @@ word h m g = wordAt h m (labelOf h m g)
 
 abbrev pub partner : ℕ → ℕ → ℕ → ℕ → ℕ
 partner h m g = partnerAt h m (labelOf h m g)
-
-pub record Symbols (h m : ℕ) (w : List ℕ) : Type 0 where
-  pub long : length w ≡ carriers m
-  pub inside : (i : ℕ) → i < carriers m → symbolAt w i < phases h
 
 abbrev pub Encodes : ℕ → ℕ → ℕ → List ℕ → List ℕ → Type 0
 Encodes h m g d w = Sent h m g (wordOf h m g) d Done w
@@ -103,7 +99,7 @@ pub record Theorems : Type 2 where
   -- The partner cancels the word's aperiodic autocorrelation at every shift from 1 to N - 1.
   pub partner-cancels : (h m g : ℕ) → inShape h m ≡ true → g < messages h m → Cancel h m (word h m g) (partner h m g)
   -- Of any two words of a shape, the pair check says yes exactly to those that cancel.
-  pub yes-iff-cancel : (h m : ℕ) (w v : List ℕ) (r : Paired) → inShape h m ≡ true → Symbols h m w → Symbols h m v →
+  pub yes-iff-cancel : (h m : ℕ) (w v : List ℕ) (r : Paired) → Word h m w → Word h m v →
       pairedTold r ≡ pairOutcome h m w v → (r ≡ Yes) ↔ Cancel h m (symbolAt w) (symbolAt v)
   -- 3. DISTANCES (demand 3; 001, Theorem 10). Words of different messages of one shape differ in at least 2^(m-2)
   -- places.

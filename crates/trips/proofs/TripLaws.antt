@@ -1,17 +1,14 @@
 -- What the calls of a round trip promise together is what the round trip promises, by the theorems of the index; and
--- only one outcome keeps each of these promises. In order: what was sent where nothing is refused; the three trips; one
--- outcome for each.
+-- only one outcome keeps each of these promises. In order: the three trips; one outcome for each.
 -- Assumes nothing.
 use Prim.Native.Nat.{ℕ}
 use mathlib.Core.Path.{_≡_, sym, _∙_, ap₂, subst}
 use mathlib.Core.List.{List}
-use lib.ListN.{length}
 use Rattle.rules.specs.Word.{wordOf, partnerOf}
-use Rattle.rules.specs.Outcome.{allowed}
-use Rattle.rules.specs.Refusal.{sendRefusal, pairOutcome, readOutcome}
+use Rattle.rules.specs.Refusal.{pairOutcome, readOutcome}
 use Rattle.encoder.specs.declared.Written.{Written}
-use Rattle.encoder.specs.declared.Written.the-variants.{Done}
 use Rattle.encoder.specs.Sent.{Sent}
+use Rattle.encoder.proofs.SentLaws.{sent-done, sent-word}
 use Rattle.pair.specs.declared.Paired.{Paired}
 use Rattle.pair.specs.Told.{pairedTold}
 use Rattle.pair.proofs.Told.{paired-unique}
@@ -24,24 +21,19 @@ use Rattle.decoder.proofs.Outcomes.{matches-unique}
 use Rattle.theorems.proofs.Proved.{theorems}
 use Rattle.trips.specs.Trips.{ReadBack, HardBack, CheckBack}
 
--- where nothing is refused, the answer is that it is done
-sent-of-allowed : {h m g : ℕ} {word d : List ℕ} {s : Written} {w : List ℕ} → Sent h m g word d s w →
-    sendRefusal h m (length d) g ≡ allowed → Sent h m g word d Done w
-sent-of-allowed p e = record { told = sym e; slice = p .slice }
-
 module _ {h m g : ℕ} {d w : List ℕ} {s : Written} (p : Sent h m g (wordOf h m g) d s w) where
   pub read-trip : {r : Reading} → readingTold r ≡ readOutcome h m w → ReadBack h m g d r w
   read-trip {r} q = record {
     slice = p .slice;
     answer = q;
-    back = λ e. theorems .read-back h m g d w r (sent-of-allowed p e) q;
+    back = λ e. theorems .read-back h m g d w r (sent-done h m g (wordOf h m g) d w e (sent-word p e)) q;
   }
 
   pub hard-trip : {r : Matched} → Matches h m w r → HardBack h m g d r w
   hard-trip {r} q = record {
     slice = p .slice;
     answer = q;
-    back = λ e two. theorems .hard-back h m g d w r two (sent-of-allowed p e) q;
+    back = λ e two. theorems .hard-back h m g d w r two (sent-done h m g (wordOf h m g) d w e (sent-word p e)) q;
   }
 
   pub check-trip : {b v : List ℕ} {t : Written} {r : Paired} → Sent h m g (partnerOf h m g) b t v →
@@ -50,7 +42,8 @@ module _ {h m g : ℕ} {d w : List ℕ} {s : Written} (p : Sent h m g (wordOf h 
     slice = p .slice;
     other = p′ .slice;
     answer = q;
-    back = λ e f. theorems .written-yes h m g d b w v r (sent-of-allowed p e) (sent-of-allowed p′ f) q;
+    back = λ e f. theorems .written-yes h m g d b w v r (sent-done h m g (wordOf h m g) d w e (sent-word p e))
+        (sent-done h m g (partnerOf h m g) b v f (sent-word p′ f)) q;
   }
 
 -- only one outcome, answer and slices, keeps each promise
