@@ -1,0 +1,242 @@
+// The library as programs in other languages link it: each call of document 01 under a name with the prefix sharqudel_,
+// over numbers, slices and cells alone. include/sharqudel.h declares these functions for C.
+// An answer leaves in pieces. The result is the refusal's number in 01's table, 0 where nothing is refused. What a call
+// gives goes into cells, and so do the numbers that a refusal carries: its first bad place and, of the pair check, which
+// word. A cell that an answer has nothing for stays as it was.
+// Each call hands on to one of the crates below and takes its answer apart. Contracts cite specs/Out.antt and
+// Crossing.antt.
+use decoder::Heard;
+use decoder::Matched;
+use encoder::Written;
+use kinds::MessageNumber;
+use kinds::Refusal;
+use pair::Paired;
+use pair::Which;
+use reader::Reading;
+use transform::Judged;
+ghost use Prim.Native.Nat.{ℕ};
+ghost use mathlib.Core.Path.{_≡_};
+ghost use lib.ListN.{length, getD};
+ghost use Rattle.rules.specs.Word.{wordOf, partnerOf};
+ghost use Rattle.rules.specs.Refusal.{pairOutcome, readOutcome, transformRefusal};
+ghost use Rattle.kinds.specs.Told.{refusalSays};
+ghost use Rattle.encoder.specs.Sent.{writtenTold};
+ghost use Rattle.pair.specs.Told.{wordTold};
+ghost use Rattle.sharqudel.specs.Crossing.{kindOf};
+ghost use Rattle.sharqudel.specs.Out.{SentOut, CheckedOut, ReadOut, SoftOut, HardOut, JudgedOut, TransformedOut};
+
+// Writes the N symbols of the message's word to out. Refuses 1, 2 and 4; out then stays as it was.
+#[no_mangle]
+pub extern "C" fn sharqudel_encode(h: u32, m: u32, message: u64, out: &mut [u8]) -> u32
+    ensures { λ r. ⌜ SentOut h m message (wordOf h m message) (now (out .entry)) r (now (out .exit)) ⌝ }
+{
+    written(encoder::encode(h, m, MessageNumber(message), out))
+}
+
+// Writes the N symbols of the partner of the message's word to out. Refuses as sharqudel_encode does.
+#[no_mangle]
+pub extern "C" fn sharqudel_partner(h: u32, m: u32, message: u64, out: &mut [u8]) -> u32
+    ensures { λ r. ⌜ SentOut h m message (partnerOf h m message) (now (out .entry)) r (now (out .exit)) ⌝ }
+{
+    written(encoder::partner(h, m, MessageNumber(message), out))
+}
+
+// Whether two words are a Golay pair, into pair. Refuses 1, 2 and 3, with the first bad place into place, and 1 for the
+// first word or 2 for the second into which. Both words are only read.
+#[no_mangle]
+pub extern "C" fn sharqudel_check(
+    h: u32,
+    m: u32,
+    first: &[u8],
+    second: &[u8],
+    pair: &mut bool,
+    place: &mut usize,
+    which: &mut u32,
+) -> u32
+    ensures { λ r. ⌜ CheckedOut (pairOutcome h m (now (first .entry)) (now (second .entry))) r
+        (now (pair .entry)) (now (pair .exit)) (now (place .entry)) (now (place .exit))
+        (now (which .entry)) (now (which .exit)) ⌝ }
+    ensures { λ _. ⌜ (now (first .exit) ≡ now (first .entry)) × (now (second .exit) ≡ now (second .entry)) ⌝ }
+{
+    match pair::check(h, m, first, second) {
+        Paired::Yes => {
+            *pair = true;
+            0
+        }
+        Paired::No => {
+            *pair = false;
+            0
+        }
+        Paired::Refused(why, word) => {
+            name(word, which);
+            tell(why, place)
+        }
+    }
+}
+
+// The message whose word the symbols are exactly, into message. Refuses 1, 2, 3 and 5, 3 with the first bad place into
+// place. The word is only read.
+#[no_mangle]
+pub extern "C" fn sharqudel_read(
+    h: u32,
+    m: u32,
+    word: &[u8],
+    message: &mut u64,
+    place: &mut usize,
+) -> u32
+    ensures { λ r. ⌜ ReadOut (readOutcome h m (now (word .entry))) r
+        (now (message .entry)) (now (message .exit)) (now (place .entry)) (now (place .exit)) ⌝ }
+    ensures { λ _. ⌜ now (word .exit) ≡ now (word .entry) ⌝ }
+{
+    match reader::read(h, m, word) {
+        Reading::Found(found) => {
+            *message = found.0;
+            0
+        }
+        Reading::Refused(why) => tell(why, place),
+    }
+}
+
+// The message of greatest correlation with the values, its correlation, and whether another word has it too. Refuses 1,
+// 6 and 2. The values are only read.
+#[no_mangle]
+pub extern "C" fn sharqudel_soft(
+    h: u32,
+    m: u32,
+    values: &[i16],
+    message: &mut u64,
+    correlation: &mut i32,
+    tied: &mut bool,
+) -> u32
+    ensures { λ r. ⌜ SoftOut h m (now (values .entry)) r (now (message .entry)) (now (message .exit))
+        (now (correlation .entry)) (now (correlation .exit)) (now (tied .entry)) (now (tied .exit)) ⌝ }
+    ensures { λ _. ⌜ now (values .exit) ≡ now (values .entry) ⌝ }
+{
+    match decoder::soft(h, m, values) {
+        Heard::Found(found) => {
+            let number = found.message;
+            *message = number.0;
+            *correlation = found.correlation;
+            *tied = found.tied;
+            0
+        }
+        Heard::Refused(why) => number(why),
+    }
+}
+
+// The message of the word nearest to the symbols, its distance, and whether another word has it too. Refuses 1, 6, 2
+// and 3, 3 with the first bad place into place. The word is only read.
+#[no_mangle]
+pub extern "C" fn sharqudel_hard(
+    h: u32,
+    m: u32,
+    word: &[u8],
+    message: &mut u64,
+    distance: &mut u32,
+    tied: &mut bool,
+    place: &mut usize,
+) -> u32
+    ensures { λ r. ⌜ HardOut h m (now (word .entry)) r (now (message .entry)) (now (message .exit))
+        (now (distance .entry)) (now (distance .exit)) (now (tied .entry)) (now (tied .exit))
+        (now (place .entry)) (now (place .exit)) ⌝ }
+    ensures { λ _. ⌜ now (word .exit) ≡ now (word .entry) ⌝ }
+{
+    match decoder::hard(h, m, word) {
+        Matched::Found(found) => {
+            let number = found.message;
+            *message = number.0;
+            *distance = found.distance;
+            *tied = found.tied;
+            0
+        }
+        Matched::Refused(why) => tell(why, place),
+    }
+}
+
+// The refusal that sharqudel_transform gives on these areas as they stand, 0 where it gives none. 7 has the first bad
+// place into place. The areas are only read.
+#[no_mangle]
+pub extern "C" fn sharqudel_refusal(m: u32, first: &[i32], second: &[i32], place: &mut usize) -> u32
+    ensures { λ r. ⌜ JudgedOut (transformRefusal m (now (first .entry)) (length (now (second .entry)))) r
+        (now (place .entry)) (now (place .exit)) ⌝ }
+    ensures { λ _. ⌜ (now (first .exit) ≡ now (first .entry)) × (now (second .exit) ≡ now (second .entry)) ⌝ }
+{
+    match transform::refusal(m, first, second) {
+        Judged::Allowed => 0,
+        Judged::Refused(why) => tell(why, place),
+    }
+}
+
+// Transforms the first N entries of the first area between the two. The spectrum is then the first N entries of the
+// area whose number, 1 or 2, goes into area: the first for even m, the second for odd m. Refuses 1, 2 and 7, 7 with the
+// first bad place into place; both areas then stay as they were.
+#[no_mangle]
+pub extern "C" fn sharqudel_transform(
+    m: u32,
+    first: &mut [i32],
+    second: &mut [i32],
+    area: &mut u32,
+    place: &mut usize,
+) -> u32
+    ensures { λ r. ⌜ TransformedOut m (now (first .entry)) (now (second .entry)) r
+        (now (area .entry)) (now (area .exit)) (now (place .entry)) (now (place .exit))
+        (now (first .exit)) (now (second .exit)) ⌝ }
+{
+    match transform::refusal(m, first, second) {
+        Judged::Allowed => {
+            transform::run(m, first, second);
+            *area = 1 + m % 2;
+            0
+        }
+        Judged::Refused(why) => tell(why, place),
+    }
+}
+
+// The number of what encode and partner answer.
+fn written(answer: Written) -> u32
+    ensures { λ r. ⌜ r ≡ kindOf (writtenTold answer) ⌝ }
+{
+    match answer {
+        Written::Done => 0,
+        Written::Refused(why) => number(why),
+    }
+}
+
+// The number of a refusal, and its place, where it carries one, into the cell.
+fn tell(why: Refusal, place: &mut usize) -> u32
+    ensures { λ r. ⌜ (r ≡ refusalSays why .0)
+        × (now (place .exit) ≡ getD (refusalSays why .1) 0 (now (place .entry))) ⌝ }
+{
+    match why {
+        Refusal::Symbol(at) => *place = at.0,
+        Refusal::Value(at) => *place = at.0,
+        _ => {}
+    }
+    number(why)
+}
+
+// The number of a refusal in the table of 01.
+fn number(why: Refusal) -> u32
+    ensures { λ r. ⌜ r ≡ refusalSays why .0 ⌝ }
+{
+    match why {
+        Refusal::Shape => 1,
+        Refusal::Length => 2,
+        Refusal::Symbol(_) => 3,
+        Refusal::Message => 4,
+        Refusal::NoWord => 5,
+        Refusal::Octary => 6,
+        Refusal::Value(_) => 7,
+    }
+}
+
+// The number of the word that a refusal speaks of, where it speaks of one, into the cell.
+fn name(word: Which, which: &mut u32)
+    ensures { λ _. ⌜ now (which .exit) ≡ getD (wordTold word) 0 (now (which .entry)) ⌝ }
+{
+    match word {
+        Which::Either => {}
+        Which::First => *which = 1,
+        Which::Second => *which = 2,
+    }
+}

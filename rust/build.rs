@@ -1,0 +1,31 @@
+// Links the proved archive. `rt staticlib sharqudel` proves and writes it, and does nothing anew where nothing changed;
+// who has an archive already names it in SHARQUDEL_ARCHIVE, a file named libsharqudel.a.
+use std::path::{Path, PathBuf};
+use std::process::Command;
+
+fn main() {
+    println!("cargo:rerun-if-env-changed=SHARQUDEL_ARCHIVE");
+    let archive = match std::env::var_os("SHARQUDEL_ARCHIVE") {
+        Some(file) => PathBuf::from(file),
+        None => proved(Path::new("..")),
+    };
+    let archive = archive.canonicalize().expect("the archive libsharqudel.a is there");
+    let folder = archive.parent().expect("a file stands in a folder");
+    println!("cargo:rerun-if-changed={}", archive.display());
+    println!("cargo:rustc-link-search=native={}", folder.display());
+    println!("cargo:rustc-link-lib=static=sharqudel");
+}
+
+// Has the archive of the repository proved and written.
+fn proved(root: &Path) -> PathBuf {
+    for source in ["crates", "crates.txt"] {
+        println!("cargo:rerun-if-changed={}", root.join(source).display());
+    }
+    let told = Command::new("rt")
+        .args(["staticlib", "sharqudel"])
+        .current_dir(root)
+        .output()
+        .expect("the Rattle kit's command rt is needed, or an archive named by SHARQUDEL_ARCHIVE");
+    assert!(told.status.success(), "rt staticlib sharqudel:\n{}", String::from_utf8_lossy(&told.stdout));
+    root.join("target/staticlib/libsharqudel.a")
+}
