@@ -1,1 +1,158 @@
+//! Message numbers to carrier words, and received words back to message numbers: a safe wrapper of the library
+//! Sharqudel, whose every function is proved to meet its contract. No function here panics, whatever it is given.
+//!
+//! A shape is two numbers: `h`, 1 to 3, with 2^h phases, and `m`, 2 to 5, with N = 2^m places in a word. A word is N
+//! symbols, each below 2^h. A call that refuses says why in a [`Refusal`], and leaves every slice as it was.
+//!
+//! ```
+//! use sharqudel::{encode, hard, Message};
+//!
+//! let mut word = [0u8; 16];
+//! encode(2, 4, Message(5120), &mut word)?; // four phases, sixteen carriers
+//! word[3] = 3; // one symbol damaged
+//! let nearest = hard(2, 4, &word)?;
+//! assert_eq!((nearest.message, nearest.distance, nearest.tied), (Message(5120), 1, false));
+//! # Ok::<(), sharqudel::Refusal>(())
+//! ```
 
+mod boundary;
+mod refusal;
+
+pub use refusal::{PairRefusal, Refusal, Which};
+use std::fmt;
+
+/// A message number: `w + h(m+1)` bits, w = 0, 1, 3, 5 for m = 2, 3, 4, 5. The path number is highest, then come
+/// c_1 to c_m, and c is lowest.
+#[derive(Clone, Copy, Debug, PartialEq, Eq, PartialOrd, Ord, Hash)]
+pub struct Message(pub u64);
+
+impl fmt::Display for Message {
+    fn fmt(&self, f: &mut fmt::Formatter<'_>) -> fmt::Result {
+        self.0.fmt(f)
+    }
+}
+
+/// The word of greatest correlation: its message, that correlation, and whether another word has it too.
+#[derive(Clone, Copy, Debug, PartialEq, Eq, Hash)]
+pub struct Loudest {
+    pub message: Message,
+    pub correlation: i32,
+    pub tied: bool,
+}
+
+/// The nearest word: its message, its distance, and whether another word is as near.
+#[derive(Clone, Copy, Debug, PartialEq, Eq, Hash)]
+pub struct Closest {
+    pub message: Message,
+    pub distance: u32,
+    pub tied: bool,
+}
+
+/// Writes the N symbols of the message's word to `out`.
+///
+/// Refuses a shape out of range, an `out` that is not N long, and a message number that needs more than its bits, in
+/// this order; `out` then stays as it was.
+pub fn encode(h: u32, m: u32, message: Message, out: &mut [u8]) -> Result<(), Refusal> {
+    // SAFETY: the pointer leads to as many symbols as are said, lent for the call alone.
+    let kind = unsafe { boundary::sharqudel_encode(h, m, message.0, out.as_mut_ptr(), out.len()) };
+    refusal::answer(kind, 0, ())
+}
+
+/// Writes the N symbols of the partner of the message's word to `out`. Refuses as [`encode`] does.
+pub fn partner(h: u32, m: u32, message: Message, out: &mut [u8]) -> Result<(), Refusal> {
+    // SAFETY: as in `encode`.
+    let kind = unsafe { boundary::sharqudel_partner(h, m, message.0, out.as_mut_ptr(), out.len()) };
+    refusal::answer(kind, 0, ())
+}
+
+/// Whether two words are a Golay pair.
+///
+/// Refuses a shape out of range, a word that is not N long, and a symbol that is 2^h or more: the first bad place of the
+/// first word, else of the second, and which word it is.
+pub fn check(h: u32, m: u32, first: &[u8], second: &[u8]) -> Result<bool, PairRefusal> {
+    let (mut pair, mut place, mut which) = (false, 0, 0);
+    // SAFETY: each pointer leads to as many symbols as are said, or to a cell of this function.
+    let kind = unsafe {
+        boundary::sharqudel_check(
+            h,
+            m,
+            first.as_ptr(),
+            first.len(),
+            second.as_ptr(),
+            second.len(),
+            &mut pair,
+            &mut place,
+            &mut which,
+        )
+    };
+    refusal::answer(kind, place, pair).map_err(|refusal| PairRefusal { refusal, word: Which::numbered(which) })
+}
+
+/// The message whose word the symbols are exactly.
+///
+/// Refuses a shape out of range, a word that is not N long, a symbol that is 2^h or more, with the first such place, and
+/// symbols that are no message's word, in this order.
+pub fn read(h: u32, m: u32, word: &[u8]) -> Result<Message, Refusal> {
+    let (mut message, mut place) = (0, 0);
+    // SAFETY: the pointers lead to as many symbols as are said, and to cells of this function.
+    let kind = unsafe { boundary::sharqudel_read(h, m, word.as_ptr(), word.len(), &mut message, &mut place) };
+    refusal::answer(kind, place, Message(message))
+}
+
+/// Soft decoding for two and four phases: the message of greatest correlation over every word; equals go to the earliest.
+///
+/// For h = 1 there are N values, symbol 0 positive and symbol 1 negative. For h = 2 there are 2N, the real and then the
+/// imaginary part of each place, with symbols 0, 1, 2, 3 at 1, j, -1, -j. Every value is taken.
+/// Refuses a shape out of range, eight phases, and another number of values, in this order.
+pub fn soft(h: u32, m: u32, values: &[i16]) -> Result<Loudest, Refusal> {
+    let (mut message, mut correlation, mut tied) = (0, 0, false);
+    // SAFETY: the pointers lead to as many values as are said, and to cells of this function.
+    let kind = unsafe {
+        boundary::sharqudel_soft(h, m, values.as_ptr(), values.len(), &mut message, &mut correlation, &mut tied)
+    };
+    refusal::answer(kind, 0, Loudest { message: Message(message), correlation, tied })
+}
+
+/// Hard decoding for two and four phases: the message of the nearest word; equals go to the earliest.
+///
+/// The distance is the number of places that differ for h = 1, and the Lee distance for h = 2.
+/// Refuses a shape out of range, eight phases, a word that is not N long, and a symbol that is 2^h or more, with the
+/// first such place, in this order.
+pub fn hard(h: u32, m: u32, word: &[u8]) -> Result<Closest, Refusal> {
+    let (mut message, mut distance, mut tied, mut place) = (0, 0, false, 0);
+    // SAFETY: the pointers lead to as many symbols as are said, and to cells of this function.
+    let kind = unsafe {
+        let (symbols, length) = (word.as_ptr(), word.len());
+        boundary::sharqudel_hard(h, m, symbols, length, &mut message, &mut distance, &mut tied, &mut place)
+    };
+    refusal::answer(kind, place, Closest { message: Message(message), distance, tied })
+}
+
+/// The spectrum of the first N entries of the first area, as a part of the area that holds it and no copy: of the first
+/// for even m, of the second for odd m. The other area then holds what stood before the last stage, and entries from N
+/// on stay in both.
+///
+/// Refuses an m out of range, an area shorter than N, and one of those N entries outside -32,768..32,767, with the
+/// first such place, in this order; both areas then stay as they were.
+pub fn transform<'a>(m: u32, first: &'a mut [i32], second: &'a mut [i32]) -> Result<&'a mut [i32], Refusal> {
+    let (mut area, mut place) = (0, 0);
+    // SAFETY: each pointer leads to as many entries as are said, or to a cell of this function; two `&mut` never overlap.
+    let kind = unsafe {
+        let (first_length, second_length) = (first.len(), second.len());
+        let (one, two) = (first.as_mut_ptr(), second.as_mut_ptr());
+        boundary::sharqudel_transform(m, one, first_length, two, second_length, &mut area, &mut place)
+    };
+    refusal::answer(kind, place, ())?;
+    let holder = if area == 1 { first } else { second };
+    Ok(&mut holder[..1 << m])
+}
+
+/// The refusal that [`transform`] gives on these areas as they stand, if it gives one.
+pub fn refusal(m: u32, first: &[i32], second: &[i32]) -> Option<Refusal> {
+    let mut place = 0;
+    // SAFETY: each pointer leads to as many entries as are said, or to a cell of this function.
+    let kind = unsafe {
+        boundary::sharqudel_refusal(m, first.as_ptr(), first.len(), second.as_ptr(), second.len(), &mut place)
+    };
+    refusal::answer(kind, place, ()).err()
+}

@@ -1,0 +1,108 @@
+//! Why a call refuses: the table of document 01.
+
+use std::error::Error;
+use std::fmt;
+
+/// Why a call refuses. Later versions may refuse for more reasons.
+#[derive(Clone, Copy, Debug, PartialEq, Eq, Hash)]
+#[non_exhaustive]
+pub enum Refusal {
+    /// 1: h or m is outside its range.
+    Shape,
+    /// 2: a word, output or soft slice has not exactly the length named, or an area is shorter than N.
+    Length,
+    /// 3: a symbol is 2^h or more; the first such place.
+    Symbol { place: usize },
+    /// 4: the message number needs more than its bits.
+    Message,
+    /// 5: in word reading, no message has this word.
+    NoWord,
+    /// 6: soft or hard decoding with h = 3.
+    Octary,
+    /// 7: an input of the transform is outside its range; the first such place.
+    Value { place: usize },
+}
+
+impl Refusal {
+    /// The number in the table.
+    pub fn number(self) -> u32 {
+        match self {
+            Refusal::Shape => 1,
+            Refusal::Length => 2,
+            Refusal::Symbol { .. } => 3,
+            Refusal::Message => 4,
+            Refusal::NoWord => 5,
+            Refusal::Octary => 6,
+            Refusal::Value { .. } => 7,
+        }
+    }
+}
+
+impl fmt::Display for Refusal {
+    fn fmt(&self, f: &mut fmt::Formatter<'_>) -> fmt::Result {
+        match self {
+            Refusal::Shape => write!(f, "h or m is outside its range"),
+            Refusal::Length => write!(f, "a slice has not the length that the shape asks for"),
+            Refusal::Symbol { place } => write!(f, "the symbol at place {place} is 2^h or more"),
+            Refusal::Message => write!(f, "the message number needs more than its bits"),
+            Refusal::NoWord => write!(f, "no message has this word"),
+            Refusal::Octary => write!(f, "eight phases are not decoded"),
+            Refusal::Value { place } => write!(f, "the input at place {place} is outside its range"),
+        }
+    }
+}
+
+impl Error for Refusal {}
+
+/// Which of two words.
+#[derive(Clone, Copy, Debug, PartialEq, Eq, Hash)]
+pub enum Which {
+    First,
+    Second,
+}
+
+impl Which {
+    /// The word of that number, where there is one.
+    pub(crate) fn numbered(which: u32) -> Option<Which> {
+        match which {
+            1 => Some(Which::First),
+            2 => Some(Which::Second),
+            _ => None,
+        }
+    }
+}
+
+/// Why the pair check refuses, and of a bad symbol which word has it.
+#[derive(Clone, Copy, Debug, PartialEq, Eq, Hash)]
+pub struct PairRefusal {
+    pub refusal: Refusal,
+    pub word: Option<Which>,
+}
+
+impl fmt::Display for PairRefusal {
+    fn fmt(&self, f: &mut fmt::Formatter<'_>) -> fmt::Result {
+        self.refusal.fmt(f)?;
+        match self.word {
+            Some(Which::First) => write!(f, ", in the first word"),
+            Some(Which::Second) => write!(f, ", in the second word"),
+            None => Ok(()),
+        }
+    }
+}
+
+impl Error for PairRefusal {}
+
+/// What a call answers: what it gave, where its number is 0, else the refusal of that number.
+pub(crate) fn answer<T>(kind: u32, place: usize, given: T) -> Result<T, Refusal> {
+    Err(match kind {
+        0 => return Ok(given),
+        1 => Refusal::Shape,
+        2 => Refusal::Length,
+        3 => Refusal::Symbol { place },
+        4 => Refusal::Message,
+        5 => Refusal::NoWord,
+        6 => Refusal::Octary,
+        7 => Refusal::Value { place },
+        other => unreachable!("the archive has no refusal {other}"),
+    })
+}
