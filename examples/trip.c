@@ -1,14 +1,14 @@
 /*
  * A message goes out and comes back damaged. From the repository's root:
  *   rt staticlib sharqudel
- *   gcc -std=c99 -Wall -Wextra -Iinclude examples/trip.c target/staticlib/libsharqudel.a -o target/trip && target/trip
+ *   gcc -std=c99 -Iinclude examples/trip.c target/staticlib/libsharqudel.a -o target/trip && target/trip
  */
 #include <inttypes.h>
 #include <stdio.h>
 
 #include "sharqudel.h"
 
-enum { H = 2, M = 4, N = 1 << M };
+enum { H = 2, M = 4, N = 1 << M }; /* four phases, sixteen carriers */
 
 static void show(const char *name, const uint8_t *word)
 {
@@ -44,14 +44,25 @@ int main(void)
         return refused(kind, place);
     printf("a Golay pair: %s\n", pair ? "yes" : "no");
 
+    /* what a receiver hears of the word: 1, j, -1, -j at a level of 1,000 */
+    static const int16_t phase[4][2] = {{1000, 0}, {0, 1000}, {-1000, 0}, {0, -1000}};
+    int16_t heard[2 * N];
+    int32_t correlation;
+    for (size_t i = 0; i < N; i++) {
+        heard[2 * i] = phase[word[i]][0];
+        heard[2 * i + 1] = phase[word[i]][1];
+    }
+    if ((kind = sharqudel_soft(H, M, heard, 2 * N, &message, &correlation, &tied)))
+        return refused(kind, place);
+    printf("soft: message %" PRIu64 ", correlation %" PRId32 "%s\n", message, correlation, tied ? ", tied" : "");
+
     word[3] = 3;
     show("damaged", word);
     if ((kind = sharqudel_read(H, M, word, N, &message, &place)))
         refused(kind, place);
     if ((kind = sharqudel_hard(H, M, word, N, &message, &distance, &tied, &place)))
         return refused(kind, place);
-    printf("decoded: message %" PRIu64 " at distance %" PRIu32 ", %s\n", message, distance, tied ? "tied" : "not tied");
-
+    printf("hard: message %" PRIu64 ", distance %" PRIu32 "%s\n", message, distance, tied ? ", tied" : "");
     word[5] = 4;
     if ((kind = sharqudel_hard(H, M, word, N, &message, &distance, &tied, &place)))
         refused(kind, place);
@@ -61,6 +72,6 @@ int main(void)
     if ((kind = sharqudel_transform(2, first, 4, second, 4, &area, &place)))
         return refused(kind, place);
     const int32_t *part = area == 1 ? first : second;
-    printf("spectrum %d %d %d %d in area %" PRIu32 "\n", part[0], part[1], part[2], part[3], area);
+    printf("spectrum %d %d %d %d\n", part[0], part[1], part[2], part[3]);
     return 0;
 }

@@ -1,47 +1,57 @@
-//! A message goes out and comes back damaged: `cargo run --example trip`, from the folder rust.
+//! A message goes out and comes back damaged: `cargo run -p sharqudel --example trip`.
 
-use sharqudel::{check, encode, hard, partner, read, soft, transform, Message};
+use sharqudel::{check, encode, hard, partner, read, soft, transform, Message, Refusal};
 use std::error::Error;
 
 fn shown(word: &[u8]) -> String {
     word.iter().map(|symbol| symbol.to_string()).collect()
 }
 
+/// A refusal by its number, with its place where it has one.
+fn refused(why: Refusal) {
+    match why {
+        Refusal::Symbol { place } | Refusal::Value { place } => println!("refused {} at place {place}", why.number()),
+        _ => println!("refused {}", why.number()),
+    }
+}
+
+fn tie(tied: bool) -> &'static str {
+    if tied {
+        ", tied"
+    } else {
+        ""
+    }
+}
+
 fn main() -> Result<(), Box<dyn Error>> {
     let (h, m) = (2, 4); // four phases, sixteen carriers
-    let mut word = [0u8; 16];
-    let mut other = [0u8; 16];
+    let (mut word, mut other) = ([0u8; 16], [0u8; 16]);
     encode(h, m, Message(5120), &mut word)?;
     partner(h, m, Message(5120), &mut other)?;
     println!("word    {}", shown(&word));
     println!("partner {}", shown(&other));
-    println!("a Golay pair: {}", check(h, m, &word, &other)?);
+    println!("a Golay pair: {}", if check(h, m, &word, &other)? { "yes" } else { "no" });
+
+    // what a receiver hears of the word: 1, j, -1, -j at a level of 1,000
+    let phases = [[1000i16, 0], [0, 1000], [-1000, 0], [0, -1000]];
+    let heard: Vec<i16> = word.iter().flat_map(|symbol| phases[*symbol as usize]).collect();
+    let found = soft(h, m, &heard)?;
+    println!("soft: message {}, correlation {}{}", found.message, found.correlation, tie(found.tied));
 
     word[3] = 3;
     println!("damaged {}", shown(&word));
-    match read(h, m, &word) {
-        Ok(message) => println!("read: message {message}"),
-        Err(why) => println!("not read: {why}"),
+    if let Err(why) = read(h, m, &word) {
+        refused(why);
     }
-    println!("decoded: {:?}", hard(h, m, &word)?);
-
-    // what a receiver hears of the undamaged word: 1, j, -1, -j at a level of 1,000
-    encode(h, m, Message(5120), &mut word)?;
-    let heard: Vec<i16> = word
-        .iter()
-        .flat_map(|symbol| match symbol {
-            0 => [1000, 0],
-            1 => [0, 1000],
-            2 => [-1000, 0],
-            _ => [0, -1000],
-        })
-        .collect();
-    println!("heard:   {:?}", soft(h, m, &heard)?);
+    let found = hard(h, m, &word)?;
+    println!("hard: message {}, distance {}{}", found.message, found.distance, tie(found.tied));
+    word[5] = 4;
+    if let Err(why) = hard(h, m, &word) {
+        refused(why);
+    }
 
     let (mut first, mut second) = ([1, 2, 3, 4], [0; 4]);
-    println!("spectrum {:?}", transform(2, &mut first, &mut second)?);
-
-    word[5] = 4;
-    println!("refused: {}", hard(h, m, &word).unwrap_err());
+    let part = transform(2, &mut first, &mut second)?;
+    println!("spectrum {} {} {} {}", part[0], part[1], part[2], part[3]);
     Ok(())
 }

@@ -1,0 +1,175 @@
+/*
+ * What the C boundary promises beside the answers: a call touches nothing outside the lengths that it is given, takes a
+ * null pointer where the length is 0, and leaves each cell that it has nothing for as it was.
+ * Slices stand against pages that may be neither read nor written, behind them and before them, so that one element
+ * too far ends the program. Prints how many checks passed and failed.
+ */
+#define _DEFAULT_SOURCE
+#include <stdio.h>
+#include <stdlib.h>
+#include <string.h>
+#include <sys/mman.h>
+#include <unistd.h>
+
+#include "sharqudel.h"
+
+enum { MOST = 64 };
+
+static int passed, failed;
+
+static void ask(const char *what, bool holds)
+{
+    if (holds) {
+        passed++;
+    } else {
+        failed++;
+        printf("FAILED  %s\n", what);
+    }
+}
+
+/* One page between two that are closed. */
+struct room {
+    char *front;
+    size_t size;
+};
+
+static struct room room_of(void)
+{
+    size_t page = (size_t)sysconf(_SC_PAGESIZE);
+    char *all = mmap(NULL, 3 * page, PROT_NONE, MAP_PRIVATE | MAP_ANONYMOUS, -1, 0);
+    if (all == MAP_FAILED || mprotect(all + page, page, PROT_READ | PROT_WRITE) != 0) {
+        perror("no closed pages");
+        exit(2);
+    }
+    return (struct room){all + page, page};
+}
+
+/* Where size bytes stand against the page behind them, or against the page before them. */
+static void *against(struct room room, size_t size, bool behind)
+{
+    return behind ? room.front + room.size - size : room.front;
+}
+
+/* The cells of all calls, set to what no call writes, and the same cells to compare with. */
+struct cells {
+    uint64_t message;
+    size_t place;
+    int32_t correlation;
+    uint32_t distance, which, area;
+    bool pair, tied;
+};
+
+static struct cells fresh(void)
+{
+    struct cells cells;
+    memset(&cells, 0, sizeof cells);
+    cells.message = 0x5555555555555555;
+    cells.place = 0x5555;
+    cells.correlation = -0x5555;
+    cells.distance = cells.which = cells.area = 0x5555;
+    cells.pair = cells.tied = true;
+    return cells;
+}
+
+static bool same(struct cells a, struct cells b)
+{
+    return a.message == b.message && a.place == b.place && a.correlation == b.correlation && a.distance == b.distance &&
+           a.which == b.which && a.area == b.area && a.pair == b.pair && a.tied == b.tied;
+}
+
+/* A null pointer with length 0: refused for its length, or before that for its shape, and nothing is written. */
+static void nulls(uint32_t h, uint32_t m)
+{
+    struct cells c = fresh();
+    bool known = h >= 1 && h <= 3 && m >= 2 && m <= 5;
+    uint32_t word = known ? SHARQUDEL_LENGTH : SHARQUDEL_SHAPE;
+    uint32_t decoded = known && h == 3 ? SHARQUDEL_OCTARY : word;
+    uint32_t areas = m >= 2 && m <= 5 ? SHARQUDEL_LENGTH : SHARQUDEL_SHAPE;
+    ask("encode of null", sharqudel_encode(h, m, 0, NULL, 0) == word);
+    ask("partner of null", sharqudel_partner(h, m, 0, NULL, 0) == word);
+    ask("check of null", sharqudel_check(h, m, NULL, 0, NULL, 0, &c.pair, &c.place, &c.which) == word);
+    ask("read of null", sharqudel_read(h, m, NULL, 0, &c.message, &c.place) == word);
+    ask("soft of null", sharqudel_soft(h, m, NULL, 0, &c.message, &c.correlation, &c.tied) == decoded);
+    ask("hard of null", sharqudel_hard(h, m, NULL, 0, &c.message, &c.distance, &c.tied, &c.place) == decoded);
+    ask("refusal of null", sharqudel_refusal(m, NULL, 0, NULL, 0, &c.place) == areas);
+    ask("transform of null", sharqudel_transform(m, NULL, 0, NULL, 0, &c.area, &c.place) == areas);
+    ask("cells after null", same(c, fresh()));
+}
+
+/* Words of a length against closed pages: an output and two words, filled with a symbol. */
+static void words(struct room one, struct room two, uint32_t h, uint32_t m, size_t length, int symbol, bool behind)
+{
+    uint8_t *first = against(one, length, behind), *second = against(two, length, behind);
+    memset(first, symbol, length);
+    memset(second, symbol, length);
+    struct cells c = fresh();
+    uint32_t kind = sharqudel_check(h, m, first, length, second, length, &c.pair, &c.place, &c.which);
+    ask("the cell pair", kind == 0 ? !c.pair : c.pair);
+    ask("the cells place and which", kind == SHARQUDEL_SYMBOL ? c.place == 0 && c.which == 1
+                                                              : c.place == 0x5555 && c.which == 0x5555);
+    struct cells d = fresh();
+    kind = sharqudel_read(h, m, first, length, &d.message, &d.place);
+    ask("the cell message of read", (kind == 0) == (d.message != 0x5555555555555555));
+    ask("the cell place of read", d.place == (kind == SHARQUDEL_SYMBOL ? 0 : 0x5555));
+    struct cells e = fresh();
+    kind = sharqudel_hard(h, m, first, length, &e.message, &e.distance, &e.tied, &e.place);
+    ask("the cells of hard", (kind == 0) == (e.message != 0x5555555555555555) && (kind == 0) == (e.distance != 0x5555));
+    ask("the cell place of hard", e.place == (kind == SHARQUDEL_SYMBOL ? 0 : 0x5555));
+    kind = sharqudel_encode(h, m, 0, first, length);
+    ask("what encode leaves", kind == 0 || length == 0 || first[length - 1] == symbol);
+    kind = sharqudel_partner(h, m, 0, second, length);
+    ask("what partner leaves", kind == 0 || length == 0 || second[length - 1] == symbol);
+}
+
+static void values(struct room one, uint32_t h, uint32_t m, size_t length, bool behind)
+{
+    int16_t *heard = against(one, 2 * length, behind);
+    for (size_t i = 0; i < length; i++)
+        heard[i] = -32768;
+    struct cells c = fresh();
+    uint32_t kind = sharqudel_soft(h, m, heard, length, &c.message, &c.correlation, &c.tied);
+    ask("the cells of soft", kind == 0 ? c.message != 0x5555555555555555 && c.correlation > 0 : same(c, fresh()));
+}
+
+static void areas(struct room one, struct room two, uint32_t m, size_t length, int32_t value, bool behind)
+{
+    int32_t *first = against(one, 4 * length, behind), *second = against(two, 4 * length, behind);
+    for (size_t i = 0; i < length; i++) {
+        first[i] = value;
+        second[i] = 9;
+    }
+    struct cells c = fresh(), d = fresh();
+    uint32_t asked = sharqudel_refusal(m, first, length, second, length, &d.place);
+    uint32_t kind = sharqudel_transform(m, first, length, second, length, &c.area, &c.place);
+    ask("the question and the transform", asked == kind && c.place == d.place);
+    ask("the cell area", c.area == (kind == 0 ? 1 + m % 2 : 0x5555));
+    ask("the cell place of transform", c.place == (kind == SHARQUDEL_VALUE ? 0 : 0x5555));
+    size_t n = kind == 0 ? (size_t)1 << m : 0;
+    bool stays = true;
+    for (size_t i = n; i < length; i++)
+        stays = stays && first[i] == value && second[i] == 9;
+    ask("entries that stay", stays);
+    ask("entry 0 of the spectrum", kind != 0 || (c.area == 1 ? first : second)[0] == (int32_t)n * value);
+}
+
+int main(void)
+{
+    struct room one = room_of(), two = room_of();
+    for (uint32_t h = 0; h <= 4; h++)
+        for (uint32_t m = 0; m <= 7; m++)
+            nulls(h, m);
+    nulls(UINT32_MAX, UINT32_MAX);
+    for (int behind = 0; behind <= 1; behind++)
+        for (uint32_t m = 1; m <= 6; m++)
+            for (size_t length = 0; length <= MOST + 1; length++) {
+                for (uint32_t h = 0; h <= 4; h++) {
+                    words(one, two, h, m, length, 0, behind);
+                    words(one, two, h, m, length, 200, behind);
+                    values(one, h, m, length, behind);
+                }
+                areas(one, two, m, length, -32768, behind);
+                areas(one, two, m, length, 40000, behind);
+            }
+    printf("%s  %d checks of the C boundary\n", failed ? "FAILED" : "ok    ", passed + failed);
+    return failed != 0;
+}
