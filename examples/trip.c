@@ -73,5 +73,8 @@ int main(void)
         return refused(kind, place);
     const int32_t *part = area == 1 ? first : second;
     printf("spectrum %d %d %d %d\n", part[0], part[1], part[2], part[3]);
+    first[2] = 40000;
+    if ((kind = sharqudel_refusal(2, first, 4, second, 4, &place)))
+        refused(kind, place);
     return 0;
 }

@@ -1,6 +1,6 @@
 //! A message goes out and comes back damaged: `cargo run -p sharqudel --example trip`.
 
-use sharqudel::{check, encode, hard, partner, read, soft, transform, Message, Refusal};
+use sharqudel::{check, encode, hard, partner, read, refusal, soft, transform, Message, Refusal};
 use std::error::Error;
 
 fn shown(word: &[u8]) -> String {
@@ -53,5 +53,9 @@ fn main() -> Result<(), Box<dyn Error>> {
     let (mut first, mut second) = ([1, 2, 3, 4], [0; 4]);
     let part = transform(2, &mut first, &mut second)?;
     println!("spectrum {} {} {} {}", part[0], part[1], part[2], part[3]);
+    first[2] = 40000;
+    if let Some(why) = refusal(2, &first, &second) {
+        refused(why);
+    }
     Ok(())
 }

@@ -21,6 +21,11 @@ mod refusal;
 pub use refusal::{PairRefusal, Refusal, Which};
 use std::fmt;
 
+/// README's own lines, run as a test.
+#[cfg(doctest)]
+#[doc = include_str!("../../README.md")]
+struct Readme;
+
 /// A message number: `w + h(m+1)` bits, w = 0, 1, 3, 5 for m = 2, 3, 4, 5. The path number is highest, then come
 /// c_1 to c_m, and c is lowest.
 #[derive(Clone, Copy, Debug, PartialEq, Eq, PartialOrd, Ord, Hash)]
