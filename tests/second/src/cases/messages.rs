@@ -1,0 +1,29 @@
+//! Encode and partner over every shape, with what stays in the slice where they are refused.
+
+use super::Cases;
+use crate::shape::Shape;
+
+pub fn add(cases: &mut Cases) {
+    cases.family("encode and partner: edges of the message range, powers of two, random messages");
+    for shape in Shape::all() {
+        let count = shape.messages();
+        let mut messages = vec![0, 1, count - 1, count, count + 1, 1 << 63, u64::MAX];
+        messages.extend((0..shape.bits()).map(|bit| 1 << bit));
+        messages.extend((0..18).map(|_| cases.message(shape)));
+        for call in ["encode", "partner"] {
+            for (number, &message) in messages.iter().enumerate() {
+                let slice = before(cases, shape, number);
+                cases.write(call, shape.h(), shape.m(), message, &slice);
+            }
+        }
+    }
+}
+
+/// What the slice holds before: all 9, all 255, or symbols of the shape.
+fn before(cases: &mut Cases, shape: Shape, number: usize) -> Vec<u8> {
+    match number % 3 {
+        0 => vec![9; shape.carriers()],
+        1 => vec![255; shape.carriers()],
+        _ => cases.random.word(shape.phases(), shape.carriers()),
+    }
+}
