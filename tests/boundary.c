@@ -2,7 +2,8 @@
  * What the C boundary promises beside the answers: a call touches nothing outside the lengths that it is given, takes a
  * null pointer where the length is 0, and leaves each cell that it has nothing for as it was.
  * Slices stand against pages that may be neither read nor written, behind them and before them, so that one element
- * too far ends the program. Prints how many checks passed and failed.
+ * too far ends the program; while a call only reads, its slices stand in pages that may not be written. Prints how many
+ * checks passed and failed.
  */
 #define _DEFAULT_SOURCE
 #include <stdio.h>
@@ -42,6 +43,15 @@ static struct room room_of(void)
         exit(2);
     }
     return (struct room){all + page, page};
+}
+
+/* Whether what stands in a room may be written. */
+static void open_to(struct room room, bool writing)
+{
+    if (mprotect(room.front, room.size, writing ? PROT_READ | PROT_WRITE : PROT_READ) != 0) {
+        perror("no page of its own");
+        exit(2);
+    }
 }
 
 /* Where size bytes stand against the page behind them, or against the page before them. */
@@ -102,6 +112,8 @@ static void words(struct room one, struct room two, uint32_t h, uint32_t m, size
     uint8_t *first = against(one, length, behind), *second = against(two, length, behind);
     memset(first, symbol, length);
     memset(second, symbol, length);
+    open_to(one, false);
+    open_to(two, false);
     struct cells c = fresh();
     uint32_t kind = sharqudel_check(h, m, first, length, second, length, &c.pair, &c.place, &c.which);
     ask("the cell pair", kind == 0 ? !c.pair : c.pair);
@@ -115,6 +127,8 @@ static void words(struct room one, struct room two, uint32_t h, uint32_t m, size
     kind = sharqudel_hard(h, m, first, length, &e.message, &e.distance, &e.tied, &e.place);
     ask("the cells of hard", (kind == 0) == (e.message != 0x5555555555555555) && (kind == 0) == (e.distance != 0x5555));
     ask("the cell place of hard", e.place == (kind == SHARQUDEL_SYMBOL ? 0 : 0x5555));
+    open_to(one, true);
+    open_to(two, true);
     kind = sharqudel_encode(h, m, 0, first, length);
     ask("what encode leaves", kind == 0 || length == 0 || first[length - 1] == symbol);
     kind = sharqudel_partner(h, m, 0, second, length);
@@ -126,8 +140,10 @@ static void values(struct room one, uint32_t h, uint32_t m, size_t length, bool 
     int16_t *heard = against(one, 2 * length, behind);
     for (size_t i = 0; i < length; i++)
         heard[i] = -32768;
+    open_to(one, false);
     struct cells c = fresh();
     uint32_t kind = sharqudel_soft(h, m, heard, length, &c.message, &c.correlation, &c.tied);
+    open_to(one, true);
     ask("the cells of soft", kind == 0 ? c.message != 0x5555555555555555 && c.correlation > 0 : same(c, fresh()));
 }
 
@@ -139,7 +155,11 @@ static void areas(struct room one, struct room two, uint32_t m, size_t length, i
         second[i] = 9;
     }
     struct cells c = fresh(), d = fresh();
+    open_to(one, false);
+    open_to(two, false);
     uint32_t asked = sharqudel_refusal(m, first, length, second, length, &d.place);
+    open_to(one, true);
+    open_to(two, true);
     uint32_t kind = sharqudel_transform(m, first, length, second, length, &c.area, &c.place);
     ask("the question and the transform", asked == kind && c.place == d.place);
     ask("the cell area", c.area == (kind == 0 ? 1 + m % 2 : 0x5555));
