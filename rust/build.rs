@@ -26,6 +26,9 @@ fn proved(root: &Path) -> PathBuf {
         .current_dir(root)
         .output()
         .expect("the Rattle kit's command rt is needed, or an archive named by SHARQUDEL_ARCHIVE");
-    assert!(told.status.success(), "rt staticlib sharqudel does not succeed: run it at the repository's root to see why");
+    assert!(
+        told.status.success(),
+        "rt staticlib sharqudel does not succeed: run it at the repository's root to see why"
+    );
     root.join("target/staticlib/libsharqudel.a")
 }
