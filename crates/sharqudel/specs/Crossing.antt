@@ -3,15 +3,19 @@
 --           givenOr o f old      a cell for what is given: f of it, and where o refuses what the cell held before
 --           carriedOr o i old    a cell for number i that a refusal carries (0 its first bad place, 1 which word): that
 --                                number, and where there is none what the cell held before
+--           Tells why r p₀ p     a refusal's number r, and its place into a cell, which held p₀, and then p
 --           areaOf m             the number of the area that holds the spectrum: 1 for even m, 2 for odd m
--- 0 is no refusal's number (proofs/CrossingLaws.antt), so that the number alone tells whether a call was refused.
+-- 0 is no refusal's number, so that the number alone tells whether a call was refused; which cells a refusal writes it
+-- tells too (proofs/Numbers.antt).
 -- Assumes nothing: these are definitions.
 use Prim.Native.Nat.{ℕ}
+use mathlib.Core.Path.{_≡_}
 use mathlib.Core.Bool.{cond}
-use mathlib.Core.List.{List}
 use lib.ListN.{getD}
 use Rattle.rules.specs.Outcome.{Outcome, gives, refuses}
 use Rattle.rules.specs.Areas.{inFirst}
+use Rattle.kinds.specs.declared.Refusal.{Refusal}
+use Rattle.kinds.specs.Told.{refusalSays}
 
 abbrev pub kindOf : {A : Type 0} → Outcome A → ℕ
 kindOf (gives a) = 0
@@ -24,6 +28,10 @@ givenOr (refuses k carried) f old = old
 abbrev pub carriedOr : {A : Type 0} → Outcome A → ℕ → ℕ → ℕ
 carriedOr (gives a) i old = old
 carriedOr (refuses k carried) i old = getD carried i old
+
+pub record Tells (why : Refusal) (r p₀ p : ℕ) : Type 0 where
+  pub number : r ≡ refusalSays why .0
+  pub place : p ≡ getD (refusalSays why .1) 0 p₀
 
 abbrev pub areaOf : ℕ → ℕ
 areaOf m = cond (inFirst m) 1 2

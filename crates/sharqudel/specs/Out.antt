@@ -9,7 +9,8 @@
 --           TransformedOut m a b r n₀ n p₀ p a′ b′    the transform: the number of the area that holds the spectrum,
 --                                              the place, and the areas, which held a and b
 -- Where o is a parameter it is the outcome that rules Refusal defines. The decoders' outcome is the one that satisfies
--- rules Decoding. Laws: proofs/OutLaws.antt (only one ending satisfies each).  Assumes nothing: these are definitions.
+-- rules Decoding. Laws: proofs/OutLaws.antt, Unique.antt (only one ending satisfies each).
+-- Assumes nothing: these are definitions.
 use Prim.Native.Nat.{ℕ}
 use mathlib.Core.Path.{_≡_}
 use mathlib.Core.Bool.{Bool}

@@ -1,8 +1,8 @@
 // The library as programs in other languages link it: each call of document 01 under a name with the prefix sharqudel_,
 // over numbers, slices and cells alone. include/sharqudel.h declares these functions for C.
 // An answer leaves in pieces. The result is the refusal's number in 01's table, 0 where nothing is refused. What a call
-// gives goes into cells, and so do the numbers that a refusal carries: its first bad place and, of the pair check, which
-// word. A cell that an answer has nothing for stays as it was.
+// gives goes into cells, and so do the numbers that a refusal carries: its first bad place and, of the pair check,
+// which word. A cell that an answer has nothing for stays as it was.
 // Each call hands on to one of the crates below and takes its answer apart. Contracts cite specs/Out.antt and
 // Crossing.antt.
 use decoder::Heard;
@@ -14,7 +14,6 @@ use pair::Paired;
 use pair::Which;
 use reader::Reading;
 use transform::Judged;
-ghost use Prim.Native.Nat.{ℕ};
 ghost use mathlib.Core.Path.{_≡_};
 ghost use lib.ListN.{length, getD};
 ghost use Rattle.rules.specs.Word.{wordOf, partnerOf};
@@ -22,7 +21,7 @@ ghost use Rattle.rules.specs.Refusal.{pairOutcome, readOutcome, transformRefusa
 ghost use Rattle.kinds.specs.Told.{refusalSays};
 ghost use Rattle.encoder.specs.Sent.{writtenTold};
 ghost use Rattle.pair.specs.Told.{wordTold};
-ghost use Rattle.sharqudel.specs.Crossing.{kindOf};
+ghost use Rattle.sharqudel.specs.Crossing.{kindOf, Tells};
 ghost use Rattle.sharqudel.specs.Out.{SentOut, CheckedOut, ReadOut, SoftOut, HardOut, JudgedOut, TransformedOut};
 
 // Writes the N symbols of the message's word to out. Refuses 1, 2 and 4; out then stays as it was.
@@ -114,9 +113,10 @@ pub extern "C" fn sharqudel_soft(
 {
     match decoder::soft(h, m, values) {
         Heard::Found(found) => {
-            let number = found.message;
-            *message = number.0;
-            *correlation = found.correlation;
+            let best = found.message;
+            *message = best.0;
+            let value = found.correlation;
+            *correlation = value;
             *tied = found.tied;
             0
         }
@@ -143,8 +143,8 @@ pub extern "C" fn sharqudel_hard(
 {
     match decoder::hard(h, m, word) {
         Matched::Found(found) => {
-            let number = found.message;
-            *message = number.0;
+            let best = found.message;
+            *message = best.0;
             *distance = found.distance;
             *tied = found.tied;
             0
@@ -204,14 +204,9 @@ fn written(answer: Written) -> u32
 
 // The number of a refusal, and its place, where it carries one, into the cell.
 fn tell(why: Refusal, place: &mut usize) -> u32
-    ensures { λ r. ⌜ (r ≡ refusalSays why .0)
-        × (now (place .exit) ≡ getD (refusalSays why .1) 0 (now (place .entry))) ⌝ }
+    ensures { λ r. ⌜ Tells why r (now (place .entry)) (now (place .exit)) ⌝ }
 {
-    match why {
-        Refusal::Symbol(at) => *place = at.0,
-        Refusal::Value(at) => *place = at.0,
-        _ => {}
-    }
+    locate(why, place);
     number(why)
 }
 
@@ -227,6 +222,21 @@ fn number(why: Refusal) -> u32
         Refusal::NoWord => 5,
         Refusal::Octary => 6,
         Refusal::Value(_) => 7,
+    }
+}
+
+// The place that a refusal carries, where it carries one, into the cell.
+fn locate(why: Refusal, place: &mut usize)
+    ensures { λ _. ⌜ now (place .exit) ≡ getD (refusalSays why .1) 0 (now (place .entry)) ⌝ }
+{
+    match why {
+        Refusal::Shape => {}
+        Refusal::Length => {}
+        Refusal::Symbol(at) => *place = at.0,
+        Refusal::Message => {}
+        Refusal::NoWord => {}
+        Refusal::Octary => {}
+        Refusal::Value(at) => *place = at.0,
     }
 }
 

@@ -1,0 +1,33 @@
+-- `sharqudel::sharqudel_refusal` meets its contract: it takes the answer of `refusal` apart, each piece into its cell.
+-- Assumes nothing.
+use mathlib.Core.Path.{refl}
+use borrow.Author.Needs.{needs}
+use Rattle.sharqudel.proofs.OutLaws.{judged-allowed, judged-refused}
+use Rattle.sharqudel.proofs.sharqudel_refusal.Statement.{statement}
+use Rattle.sharqudel.proofs.sharqudel_refusal.Tie as tie
+
+refusal-requires : tie.Need-refusal-requires
+refusal-requires c κs = search needs
+
+enum-told : tie.Need-enum-told
+enum-told c = search needs
+
+enum-known-why : tie.Need-enum-known-why
+enum-known-why c = search needs
+
+tell-requires : tie.Need-tell-requires
+tell-requires c κs = search needs
+
+returns : tie.Need-returns
+returns c = (judged-allowed (rw (c .enum-told .given .1) at (c .before .before .refusal .ensures .0)), (refl, refl))
+
+returns-2 : tie.Need-returns-2
+returns-2 c = let arm = c .before .before .before in (
+  judged-refused (arm .why .given .0 .0) (rw (arm .why .given .1) at (arm .before .before .refusal .ensures .0))
+      (c .tell .ensures),
+  (refl, refl),
+)
+
+pub sharqudel-refusal-spec : {M : Type 1} → statement M
+sharqudel-refusal-spec =
+    tie.close (tie.spec refusal-requires enum-told enum-known-why tell-requires returns returns-2)

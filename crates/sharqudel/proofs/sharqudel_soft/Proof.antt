@@ -1,0 +1,43 @@
+-- `sharqudel::sharqudel_soft` meets its contract: it takes the answer of `soft` apart, each piece into its cell.
+-- Assumes nothing.
+use mathlib.Core.Path.{refl}
+use mir.Syntax.{w32}
+use mir.Val.{SFits}
+use mir.ValLaws.{toZ-ofZ}
+use borrow.Author.Needs.{needs}
+use Rattle.sharqudel.proofs.OutLaws.{soft-given, soft-refused}
+use Rattle.sharqudel.proofs.sharqudel_soft.Statement.{statement}
+use Rattle.sharqudel.proofs.sharqudel_soft.Tie as tie
+
+soft-requires : tie.Need-soft-requires
+soft-requires c κs = search needs
+
+enum-known-found : tie.Need-enum-known-found
+enum-known-found c = search needs
+
+enum-known-why : tie.Need-enum-known-why
+enum-known-why c = search needs
+
+number-requires : tie.Need-number-requires
+number-requires c κs = search needs
+
+-- the correlation comes from an i32, so the cell holds it whole
+returns : tie.Need-returns
+returns c =
+    let arm = c .before .before .before in
+    let loudest = arm .found .given .0 .0 in
+    let fits : SFits w32 (loudest .correlation) = record { sfits = c .struct-told .given .1 .0 .1 } in
+    let heard = soft-given (rw (arm .found .given .1) at (arm .before .before .soft .ensures .0)) in
+    (rw (toZ-ofZ w32 (loudest .correlation) fits) heard, refl)
+
+returns-2 : tie.Need-returns-2
+returns-2 c = let arm = c .before .before in (
+  soft-refused (arm .why .given .0 .0) (rw (arm .why .given .1) at (arm .before .before .soft .ensures .0))
+      (c .number .ensures),
+  refl,
+)
+
+pub sharqudel-soft-spec : {M : Type 1} → statement M
+sharqudel-soft-spec =
+    tie.close
+    (tie.spec soft-requires enum-known-found enum-known-why number-requires returns returns-2)
