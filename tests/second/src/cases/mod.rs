@@ -3,6 +3,7 @@
 mod areas;
 mod damaged;
 mod hard;
+mod kept;
 mod known;
 mod messages;
 mod near_pairs;
@@ -32,6 +33,7 @@ pub fn all(seed: u64) -> Vec<String> {
         soft::add,
         areas::add,
         damaged::add,
+        kept::add,
     ] {
         add(&mut cases);
     }
