@@ -23,23 +23,32 @@ pub fn signed(x: i32) {
     }
 }
 
-// The entries of an area in brackets, with a space before each and before the brackets.
+// The entries of an area in brackets, with a space between two, as the case files have them.
 pub fn area(entries: &[i32]) {
-    say(b" [");
+    say(b"[");
     let mut i = 0;
     while i < entries.len() {
-        entry(entries[i]);
+        entry(i, entries[i]);
         i += 1;
     }
-    say(b" ]");
+    say(b"]");
 }
 
-fn entry(x: i32) {
+// The entry at a place of its area.
+fn entry(place: usize, x: i32) {
+    if place == 0 {
+        signed(x);
+    } else {
+        spaced(x);
+    }
+}
+
+fn spaced(x: i32) {
     say(b" ");
     signed(x);
 }
 
-// Soft values, in the form of an area.
+// Soft values in brackets, with a space before each and before the brackets.
 pub fn values(y: &[i16]) {
     say(b" [");
     let mut i = 0;
@@ -51,7 +60,7 @@ pub fn values(y: &[i16]) {
 }
 
 fn value(x: i16) {
-    entry(x as i32);
+    spaced(x as i32);
 }
 
 // The symbols of a word, one digit each.

@@ -13,14 +13,14 @@ use Rattle.show.proofs.value.Tie as tie
 wide : (z : ℤ) → SFits w16 z → SFits w32 z
 wide z f = record { sfits = omega (arith, f .sfits) }
 
-cast-entry : tie.Need-cast-entry
-cast-entry c = rw (toZ-ofZ w16 (c .args .x) (c .fits .x)) (wide (c .args .x) (c .fits .x))
+cast-spaced : tie.Need-cast-spaced
+cast-spaced c = rw (toZ-ofZ w16 (c .args .x) (c .fits .x)) (wide (c .args .x) (c .fits .x))
 
-entry-requires : tie.Need-entry-requires
-entry-requires c κs = search needs
+spaced-requires : tie.Need-spaced-requires
+spaced-requires c κs = search needs
 
 returns : tie.Need-returns
 returns c = search needs
 
 pub value-spec : {M : Type 1} → statement M
-value-spec = tie.close (tie.spec cast-entry entry-requires returns)
+value-spec = tie.close (tie.spec cast-spaced spaced-requires returns)

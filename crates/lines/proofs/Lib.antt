@@ -1,0 +1,2 @@
+-- The laws that several functions of the crate cite.
+mod Fronts
