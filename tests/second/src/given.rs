@@ -55,13 +55,13 @@ impl<'a> Given<'a> {
         self.rest.is_empty().then_some(())
     }
 
-    /// A number in the range of its type, written in the one way: no plus, no zero in front, no minus zero.
+    /// A number in the range of its type: digits, and a minus only where it is below zero.
     pub fn number<T: FromStr>(&mut self) -> Option<T> {
         let unsigned = self.rest.strip_prefix('-').unwrap_or(self.rest);
         let digits = unsigned.find(|sign: char| !sign.is_ascii_digit()).unwrap_or(unsigned.len());
         let length = self.rest.len() - unsigned.len() + digits;
         let (number, rest) = self.rest.split_at(length);
-        if number == "-0" || (digits > 1 && unsigned.starts_with('0')) {
+        if number.starts_with('-') && unsigned[..digits].chars().all(|digit| digit == '0') {
             return None;
         }
         self.rest = rest;

@@ -16,7 +16,7 @@ pub fn answer(line: &str) -> String {
     if line.len() > LONGEST_LINE {
         return "not a case".to_string();
     }
-    if line.starts_with("# ") {
+    if line.starts_with('#') {
         return line.to_string();
     }
     answer_call(line).unwrap_or_else(|| "not a case".to_string())

@@ -41,14 +41,15 @@ fn the_spectrum_of_odd_m_stands_in_the_second_area() {
 }
 
 #[test]
-fn the_last_family_alone_is_damaged() {
+fn one_family_alone_is_damaged() {
     let lines = cases::all(1999);
     assert_eq!(lines[0], "# made by: second cases 1999");
-    let damaged = lines.iter().position(|line| line == "# damaged lines").unwrap();
-    let call = |line: &&String| !line.starts_with('#') && !line.starts_with("read 3 5 ");
-    assert!(lines[..damaged].iter().filter(call).all(|line| answer(line) != "not a case"));
-    assert!(lines[damaged + 1..].iter().all(|line| answer(line) == "not a case"));
-    assert!(lines.len() - damaged > 30);
+    let from = lines.iter().position(|line| line == "# damaged lines").unwrap() + 1;
+    let to = from + lines[from..].iter().position(|line| line.starts_with('#')).unwrap();
+    assert!(to - from > 30 && lines[from..to].iter().all(|line| answer(line) == "not a case"));
+    let call = |line: &&String| !line.starts_with("read 3 5 ");
+    let others = lines[..from].iter().chain(&lines[to..]);
+    assert!(others.filter(call).all(|line| answer(line) != "not a case"));
 }
 
 #[test]
@@ -63,7 +64,7 @@ fn near_pairs_are_no_pairs() {
 fn the_whole_set_keeps_to_its_size() {
     for seed in [0, 1999, u64::MAX] {
         let lines = cases::all(seed);
-        assert!((5_000..=7_000).contains(&lines.len()));
+        assert!((5_000..=8_000).contains(&lines.len()));
         assert!(lines.iter().map(|line| line.len() + 1).sum::<usize>() <= 900_000);
         assert!(lines.iter().all(|line| line.len() <= 4_000));
     }

@@ -1,4 +1,4 @@
-//! Lines that are no case.
+//! Lines that are no case, and some that look so and are one.
 
 use super::Cases;
 
@@ -12,7 +12,20 @@ pub fn add(cases: &mut Cases) {
     cases.line(format!("soft 1 2 [1{}]", " 1".repeat(128)));
     cases.line(format!("run 2 [1 2 3 4] [0{}]", " 0".repeat(128)));
     cases.line("[".repeat(300));
+    cases.family("odd lines that are cases, and comments");
+    for line in ODD {
+        cases.line(*line);
+    }
 }
+
+const ODD: &[&str] = &[
+    "#",
+    "#encode 2 2 0 [9999]",
+    "encode 02 002 00000000000000000000027 [9999]",
+    "read 2 2 [0(0010)02]",
+    "soft 1 2 [-01 0002 -00003 00]",
+    "run 2 [00 -01 2 3] [0 0 0 0]",
+];
 
 const LINES: &[&str] = &[
     "",
@@ -70,6 +83,7 @@ const LINES: &[&str] = &[
     "soft 1 2 [1 2 3 4 ]",
     "soft 1 2 [1,2,3,4]",
     "soft 1 2 [1 2 3 -0]",
+    "soft 1 2 [1 2 3 -00]",
     "soft 1 2 [1 2 3 -]",
     "soft 1 2 [1 2 3 4",
     "transform 2 [1 2 3 4]",
