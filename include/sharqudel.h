@@ -1,8 +1,16 @@
 /*
  * Sharqudel for C: message numbers to carrier words, and received words back to message numbers, after Davis and
- * Jedwab (1999). `rt staticlib sharqudel` writes the archive target/staticlib/libsharqudel.a; link it and nothing else.
+ * Jedwab (1999). `rt staticlib sharqudel` writes the archive target/staticlib/libsharqudel.a; of the C library it needs
+ * memcpy and memset alone.
  *
- * Shape. h is 1 to 3, with 2^h phases; m is 2 to 5, with N = 2^m places in a word. A word is N symbols, each below 2^h.
+ * Shape. h is 1 to 3, with 2^h phases; m is 2 to 5, with N = 2^m places in a word. A symbol is a number below 2^h.
+ *
+ * Words of messages. Place i is x_1 .. x_m in binary, x_1 the most significant. A path is an order p of 1 .. m with
+ * p(1) < p(m); paths are numbered from 0 in dictionary order, and the first 2^w are in use, w = 0, 1, 3, 5 for
+ * m = 2, 3, 4, 5. A message number has w + h(m+1) bits: path number highest, then c_1 to c_m, then c lowest, each in h
+ * plain binary bits; these parts in this order are its label. Its word has at each place, modulo 2^h,
+ *   2^(h-1) (x_p(1) x_p(2) + .. + x_p(m-1) x_p(m)) + c_1 x_1 + .. + c_m x_m + c,
+ * and its partner 2^(h-1) x_p(1) more.
  *
  * Answers. Each function returns 0, or the number of a refusal (below). What it gives goes into the cells that its last
  * pointers lead to, and is written only where it returns 0. A refusal writes at most its own cells: `place` where the
@@ -10,13 +18,13 @@
  * not written stays as it was, and so does every word, output and area where a call is refused.
  * Refusals are tried in this order: shape, octary, length, and then the content.
  *
- * Pointers. A pointer with a length leads to that many elements; it may be null where the length is 0. A cell's pointer
- * is never null. What a call writes (output, areas, cells) overlaps nothing else that the call is given; words and
- * values that are only read may overlap each other. Nothing outside these lengths is read or written, nothing is kept
- * after the call, and no memory is taken: calls on different memory may run on any threads at once.
+ * Pointers, the caller's part. A pointer with a length leads to that many elements, aligned as their type asks; it may
+ * be null where the length is 0. A cell's pointer is never null. What a call writes (output, areas, cells) overlaps
+ * nothing else that the call is given; what is only read may overlap.
  *
- * Every function is proved to do what is said here, for every h, m, length and content; what this header says of types
- * and of pointers is the caller's part.
+ * The library's part. Nothing outside these lengths is read or written, nothing is kept after the call, and no memory
+ * is taken but the stack, some 20 KB in decoding; calls on different memory may run on any threads at once. Each
+ * answer, and what every cell, output and area then holds, is proved, for every h, m, length and content.
  */
 #ifndef SHARQUDEL_H
 #define SHARQUDEL_H
@@ -41,8 +49,7 @@ enum {
 };
 
 /*
- * Writes the N symbols of the message's word to out, which has exactly N places. A message number has w + h(m+1) bits,
- * w = 0, 1, 3, 5 for m = 2, 3, 4, 5: path number highest, then c_1 to c_m, then c lowest.
+ * Writes the N symbols of the message's word to out, which has exactly N places.
  * Refuses SHAPE, LENGTH, MESSAGE.
  */
 uint32_t sharqudel_encode(uint32_t h, uint32_t m, uint64_t message, uint8_t *out, size_t out_length);
@@ -51,8 +58,10 @@ uint32_t sharqudel_encode(uint32_t h, uint32_t m, uint64_t message, uint8_t *out
 uint32_t sharqudel_partner(uint32_t h, uint32_t m, uint64_t message, uint8_t *out, size_t out_length);
 
 /*
- * Whether two words are a Golay pair, into pair. Refuses SHAPE, LENGTH (either word), SYMBOL: the first bad place of
- * the first word, else of the second, into place, and the number of that word, 1 or 2, into which.
+ * Whether two words of N symbols are a Golay pair, into pair: for each shift u from 1 to N - 1 and each phase k, the
+ * places i of both words with symbol i minus symbol i + u equal to k, modulo 2^h, are as many as for k + 2^(h-1).
+ * Refuses SHAPE, LENGTH (either word), SYMBOL: the first bad place of the first word, else of the second, into place,
+ * and the number of that word, 1 or 2, into which.
  */
 uint32_t sharqudel_check(uint32_t h, uint32_t m, const uint8_t *first, size_t first_length, const uint8_t *second,
                          size_t second_length, bool *pair, size_t *place, uint32_t *which);
@@ -62,17 +71,18 @@ uint32_t sharqudel_read(uint32_t h, uint32_t m, const uint8_t *word, size_t word
                         size_t *place);
 
 /*
- * Soft decoding, h = 1 or 2: the message of greatest correlation over every word, that correlation, and whether another
- * word has it too; equals go to the earliest word. All 16-bit values are taken. h = 1: N values, symbol 0 positive,
- * symbol 1 negative. h = 2: 2N values, the real and then the imaginary part of each place, symbols 0, 1, 2, 3 at
- * 1, j, -1, -j. Refuses SHAPE, OCTARY, LENGTH.
+ * Soft decoding, h = 1 or 2: the message whose word has the greatest correlation with the values, that correlation, and
+ * whether another message's word has it too; equals go to the earliest label. All 16-bit values are taken.
+ * h = 1: N values, symbol 0 positive, symbol 1 negative. h = 2: 2N values, the real and then the imaginary part of each
+ * place, symbols 0, 1, 2, 3 at 1, j, -1, -j. Refuses SHAPE, OCTARY, LENGTH.
  */
 uint32_t sharqudel_soft(uint32_t h, uint32_t m, const int16_t *values, size_t values_length, uint64_t *message,
                         int32_t *correlation, bool *tied);
 
 /*
- * Hard decoding, h = 1 or 2: the message of the nearest word, its distance, and whether another word is as near; equals
- * go to the earliest word. Distance is the number of places that differ for h = 1, and Lee distance for h = 2.
+ * Hard decoding, h = 1 or 2: the message whose word is nearest to the symbols, its distance, and whether another
+ * message's word is as near; equals go to the earliest label. Distance is the number of places that differ for
+ * h = 1, and Lee distance for h = 2: the sum of the smaller of d and 4 - d, d being the difference modulo 4.
  * Refuses SHAPE, OCTARY, LENGTH, SYMBOL.
  */
 uint32_t sharqudel_hard(uint32_t h, uint32_t m, const uint8_t *word, size_t word_length, uint64_t *message,

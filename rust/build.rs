@@ -1,5 +1,5 @@
 // Links the proved archive. `rt staticlib sharqudel` proves and writes it, and does nothing anew where nothing changed;
-// who has an archive already names it in SHARQUDEL_ARCHIVE, a file named libsharqudel.a.
+// who has an archive already names it in SHARQUDEL_ARCHIVE: the whole path of a file libsharqudel.a.
 use std::path::{Path, PathBuf};
 use std::process::Command;
 
@@ -10,6 +10,7 @@ fn main() {
         None => proved(Path::new("..")),
     };
     let archive = archive.canonicalize().expect("the archive libsharqudel.a is there");
+    assert_eq!(archive.file_name(), Some("libsharqudel.a".as_ref()), "SHARQUDEL_ARCHIVE names a file libsharqudel.a");
     let folder = archive.parent().expect("a file stands in a folder");
     println!("cargo:rerun-if-changed={}", archive.display());
     println!("cargo:rustc-link-search=native={}", folder.display());

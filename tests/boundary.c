@@ -106,33 +106,75 @@ static void nulls(uint32_t h, uint32_t m)
     ask("cells after null", same(c, fresh()));
 }
 
-/* Words of a length against closed pages: an output and two words, filled with a symbol. */
-static void words(struct room one, struct room two, uint32_t h, uint32_t m, size_t length, int symbol, bool behind)
+/* The refusal of a word of a length, all of one symbol; 0 where its content is right. */
+static uint32_t due(uint32_t h, uint32_t m, size_t length, unsigned symbol)
+{
+    if (h < 1 || h > 3 || m < 2 || m > 5)
+        return SHARQUDEL_SHAPE;
+    if (length != (size_t)1 << m)
+        return SHARQUDEL_LENGTH;
+    return symbol >> h ? SHARQUDEL_SYMBOL : 0;
+}
+
+/* The same of decoding. */
+static uint32_t due_decoded(uint32_t h, uint32_t m, size_t length, unsigned symbol)
+{
+    uint32_t kind = due(h, m, length, symbol);
+    return h == 3 && kind != SHARQUDEL_SHAPE ? SHARQUDEL_OCTARY : kind;
+}
+
+static bool all_are(const uint8_t *word, size_t length, uint8_t symbol)
+{
+    for (size_t i = 0; i < length; i++)
+        if (word[i] != symbol)
+            return false;
+    return true;
+}
+
+/* Words of a length against closed pages, all of one symbol: two for the pair check, one read and decoded. */
+static void words(struct room one, struct room two, uint32_t h, uint32_t m, size_t length, uint8_t symbol, bool behind)
 {
     uint8_t *first = against(one, length, behind), *second = against(two, length, behind);
     memset(first, symbol, length);
     memset(second, symbol, length);
     open_to(one, false);
     open_to(two, false);
-    struct cells c = fresh();
-    uint32_t kind = sharqudel_check(h, m, first, length, second, length, &c.pair, &c.place, &c.which);
-    ask("the cell pair", kind == 0 ? !c.pair : c.pair);
-    ask("the cells place and which", kind == SHARQUDEL_SYMBOL ? c.place == 0 && c.which == 1
-                                                              : c.place == 0x5555 && c.which == 0x5555);
-    struct cells d = fresh();
-    kind = sharqudel_read(h, m, first, length, &d.message, &d.place);
-    ask("the cell message of read", (kind == 0) == (d.message != 0x5555555555555555));
-    ask("the cell place of read", d.place == (kind == SHARQUDEL_SYMBOL ? 0 : 0x5555));
-    struct cells e = fresh();
-    kind = sharqudel_hard(h, m, first, length, &e.message, &e.distance, &e.tied, &e.place);
-    ask("the cells of hard", (kind == 0) == (e.message != 0x5555555555555555) && (kind == 0) == (e.distance != 0x5555));
-    ask("the cell place of hard", e.place == (kind == SHARQUDEL_SYMBOL ? 0 : 0x5555));
+    struct cells c = fresh(), d = fresh(), e = fresh(), right = fresh();
+    uint32_t kind = due(h, m, length, symbol), no_word = kind ? kind : SHARQUDEL_NO_WORD;
+    uint32_t decoded = due_decoded(h, m, length, symbol);
+    ask("check", sharqudel_check(h, m, first, length, second, length, &c.pair, &c.place, &c.which) == kind);
+    ask("read", sharqudel_read(h, m, first, length, &d.message, &d.place) == no_word);
+    ask("hard", sharqudel_hard(h, m, first, length, &e.message, &e.distance, &e.tied, &e.place) == decoded);
     open_to(one, true);
     open_to(two, true);
-    kind = sharqudel_encode(h, m, 0, first, length);
-    ask("what encode leaves", kind == 0 || length == 0 || first[length - 1] == symbol);
-    kind = sharqudel_partner(h, m, 0, second, length);
-    ask("what partner leaves", kind == 0 || length == 0 || second[length - 1] == symbol);
+    right.pair = kind != 0;
+    right.place = kind == SHARQUDEL_SYMBOL ? 0 : right.place;
+    right.which = kind == SHARQUDEL_SYMBOL ? 1 : right.which;
+    ask("the cells of check", same(c, right));
+    right = fresh();
+    right.place = kind == SHARQUDEL_SYMBOL ? 0 : right.place;
+    ask("the cells of read", same(d, right));
+    right.place = decoded == SHARQUDEL_SYMBOL ? 0 : fresh().place;
+    if (decoded == 0)
+        ask("the cells of hard", e.message < 131072 && e.distance <= length && e.place == right.place);
+    else
+        ask("the cells of hard, refused", same(e, right));
+}
+
+/* An output of a length against closed pages: encode and partner of message 0, and of one that no shape has. */
+static void outputs(struct room one, uint32_t h, uint32_t m, size_t length, bool behind)
+{
+    uint8_t *out = against(one, length, behind);
+    uint32_t kind = due(h, m, length, 0), beyond = kind ? kind : SHARQUDEL_MESSAGE;
+    memset(out, 200, length);
+    ask("encode of 2^63", sharqudel_encode(h, m, UINT64_C(1) << 63, out, length) == beyond);
+    ask("partner of 2^63", sharqudel_partner(h, m, UINT64_C(1) << 63, out, length) == beyond);
+    ask("an output that is refused", all_are(out, length, 200));
+    ask("encode", sharqudel_encode(h, m, 0, out, length) == kind);
+    ask("what encode leaves", kind ? all_are(out, length, 200) : out[0] == 0 && out[length - 1] < 1 << h);
+    memset(out, 200, length);
+    ask("partner", sharqudel_partner(h, m, 0, out, length) == kind);
+    ask("what partner leaves", kind ? all_are(out, length, 200) : out[0] == 0 && out[length - 1] < 1 << h);
 }
 
 static void values(struct room one, uint32_t h, uint32_t m, size_t length, bool behind)
@@ -144,7 +186,9 @@ static void values(struct room one, uint32_t h, uint32_t m, size_t length, bool 
     struct cells c = fresh();
     uint32_t kind = sharqudel_soft(h, m, heard, length, &c.message, &c.correlation, &c.tied);
     open_to(one, true);
-    ask("the cells of soft", kind == 0 ? c.message != 0x5555555555555555 && c.correlation > 0 : same(c, fresh()));
+    size_t places = h != 2 ? length : length % 2 ? 0 : length / 2;
+    ask("soft", kind == due_decoded(h, m, places, 0));
+    ask("the cells of soft", kind == 0 ? c.message < 131072 && c.correlation > 0 : same(c, fresh()));
 }
 
 static void areas(struct room one, struct room two, uint32_t m, size_t length, int32_t value, bool behind)
@@ -161,7 +205,9 @@ static void areas(struct room one, struct room two, uint32_t m, size_t length, i
     open_to(one, true);
     open_to(two, true);
     uint32_t kind = sharqudel_transform(m, first, length, second, length, &c.area, &c.place);
-    ask("the question and the transform", asked == kind && c.place == d.place);
+    uint32_t right = due(1, m, length < (size_t)1 << m ? length : (size_t)1 << m, 0);
+    right = right == 0 && value == 40000 ? SHARQUDEL_VALUE : right;
+    ask("the question and the transform", asked == right && kind == right && c.place == d.place);
     ask("the cell area", c.area == (kind == 0 ? 1 + m % 2 : 0x5555));
     ask("the cell place of transform", c.place == (kind == SHARQUDEL_VALUE ? 0 : 0x5555));
     size_t n = kind == 0 ? (size_t)1 << m : 0;
@@ -172,8 +218,48 @@ static void areas(struct room one, struct room two, uint32_t m, size_t length, i
     ask("entry 0 of the spectrum", kind != 0 || (c.area == 1 ? first : second)[0] == (int32_t)n * value);
 }
 
+/* A clean word is not tied, and a word all of ones is: what a cell held before is no answer. */
+static void ties(void)
+{
+    const uint8_t clean[4] = {0, 0, 0, 1}, ones[4] = {1, 1, 1, 1};
+    const int16_t heard[4] = {9, 9, 9, -9}, silence[4] = {0};
+    for (int before = 0; before <= 1; before++) {
+        struct cells c = fresh();
+        c.tied = before;
+        ask("hard of a clean word", sharqudel_hard(1, 2, clean, 4, &c.message, &c.distance, &c.tied, &c.place) == 0 &&
+                                        c.message == 0 && c.distance == 0 && !c.tied);
+        c.tied = before;
+        ask("hard of ones", sharqudel_hard(1, 2, ones, 4, &c.message, &c.distance, &c.tied, &c.place) == 0 &&
+                                c.message == 1 && c.distance == 1 && c.tied);
+        c.tied = before;
+        ask("soft of a clean word", sharqudel_soft(1, 2, heard, 4, &c.message, &c.correlation, &c.tied) == 0 &&
+                                        c.message == 0 && c.correlation == 36 && !c.tied);
+        c.tied = before;
+        ask("soft of silence", sharqudel_soft(1, 2, silence, 4, &c.message, &c.correlation, &c.tied) == 0 &&
+                                   c.message == 0 && c.correlation == 0 && c.tied);
+    }
+}
+
+/* The pair check writes yes and no, whatever its cell held, and names the second word. */
+static void pairs(void)
+{
+    const uint8_t word[4] = {0, 0, 0, 2}, partner[4] = {0, 0, 2, 0}, bad[4] = {0, 4, 4, 0};
+    for (int before = 0; before <= 1; before++) {
+        struct cells c = fresh();
+        c.pair = before;
+        ask("yes", sharqudel_check(2, 2, word, 4, partner, 4, &c.pair, &c.place, &c.which) == 0 && c.pair);
+        c.pair = before;
+        ask("no", sharqudel_check(2, 2, word, 4, word, 4, &c.pair, &c.place, &c.which) == 0 && !c.pair);
+        c.pair = before;
+        uint32_t kind = sharqudel_check(2, 2, word, 4, bad, 4, &c.pair, &c.place, &c.which);
+        ask("the second word", kind == SHARQUDEL_SYMBOL && c.pair == before && c.place == 1 && c.which == 2);
+    }
+}
+
 int main(void)
 {
+    ties();
+    pairs();
     struct room one = room_of(), two = room_of();
     for (uint32_t h = 0; h <= 4; h++)
         for (uint32_t m = 0; m <= 7; m++)
@@ -185,6 +271,7 @@ int main(void)
                 for (uint32_t h = 0; h <= 4; h++) {
                     words(one, two, h, m, length, 0, behind);
                     words(one, two, h, m, length, 200, behind);
+                    outputs(one, h, m, length, behind);
                     values(one, h, m, length, behind);
                 }
                 areas(one, two, m, length, -32768, behind);

@@ -1,8 +1,9 @@
 //! Message numbers to carrier words, and received words back to message numbers: a safe wrapper of the library
 //! Sharqudel, whose every function is proved to meet its contract. No function here panics, whatever it is given.
 //!
-//! A shape is two numbers: `h`, 1 to 3, with 2^h phases, and `m`, 2 to 5, with N = 2^m places in a word. A word is N
-//! symbols, each below 2^h. A call that refuses says why in a [`Refusal`], and leaves every slice as it was.
+//! A shape is two numbers: `h`, 1 to 3, with 2^h phases, and `m`, 2 to 5, with N = 2^m places in a word. A symbol is a
+//! number below 2^h. What the word and the partner of a message are, include/sharqudel.h says in the library's sources.
+//! A call that refuses says why in a [`Refusal`], and leaves every slice as it was.
 //!
 //! ```
 //! use sharqudel::{encode, hard, Message};
@@ -37,7 +38,8 @@ impl fmt::Display for Message {
     }
 }
 
-/// The word of greatest correlation: its message, that correlation, and whether another word has it too.
+/// The message whose word has the greatest correlation, that correlation, and whether another message's word has it
+/// too.
 #[derive(Clone, Copy, Debug, PartialEq, Eq, Hash)]
 pub struct Loudest {
     pub message: Message,
@@ -45,7 +47,7 @@ pub struct Loudest {
     pub tied: bool,
 }
 
-/// The nearest word: its message, its distance, and whether another word is as near.
+/// The message whose word is nearest, its distance, and whether another message's word is as near.
 #[derive(Clone, Copy, Debug, PartialEq, Eq, Hash)]
 pub struct Closest {
     pub message: Message,
@@ -72,8 +74,8 @@ pub fn partner(h: u32, m: u32, message: Message, out: &mut [u8]) -> Result<(), R
 
 /// Whether two words are a Golay pair.
 ///
-/// Refuses a shape out of range, a word that is not N long, and a symbol that is 2^h or more: the first bad place of the
-/// first word, else of the second, and which word it is.
+/// Refuses a shape out of range, a word that is not N long, and a symbol that is 2^h or more: the first bad place of
+/// the first word, else of the second, and which word it is.
 pub fn check(h: u32, m: u32, first: &[u8], second: &[u8]) -> Result<bool, PairRefusal> {
     let (mut pair, mut place, mut which) = (false, 0, 0);
     // SAFETY: each pointer leads to as many symbols as are said, or to a cell of this function.
@@ -95,8 +97,8 @@ pub fn check(h: u32, m: u32, first: &[u8], second: &[u8]) -> Result<bool, PairRe
 
 /// The message whose word the symbols are exactly.
 ///
-/// Refuses a shape out of range, a word that is not N long, a symbol that is 2^h or more, with the first such place, and
-/// symbols that are no message's word, in this order.
+/// Refuses a shape out of range, a word that is not N long, a symbol that is 2^h or more, with the first such place,
+/// and symbols that are no message's word, in this order.
 pub fn read(h: u32, m: u32, word: &[u8]) -> Result<Message, Refusal> {
     let (mut message, mut place) = (0, 0);
     // SAFETY: the pointers lead to as many symbols as are said, and to cells of this function.
@@ -104,7 +106,8 @@ pub fn read(h: u32, m: u32, word: &[u8]) -> Result<Message, Refusal> {
     refusal::answer(kind, place, Message(message))
 }
 
-/// Soft decoding for two and four phases: the message of greatest correlation over every word; equals go to the earliest.
+/// Soft decoding for two and four phases: the message whose word has the greatest correlation with the values; equals
+/// go to the earliest label: path number, then c_1 to c_m, then c.
 ///
 /// For h = 1 there are N values, symbol 0 positive and symbol 1 negative. For h = 2 there are 2N, the real and then the
 /// imaginary part of each place, with symbols 0, 1, 2, 3 at 1, j, -1, -j. Every value is taken.
@@ -118,7 +121,8 @@ pub fn soft(h: u32, m: u32, values: &[i16]) -> Result<Loudest, Refusal> {
     refusal::answer(kind, 0, Loudest { message: Message(message), correlation, tied })
 }
 
-/// Hard decoding for two and four phases: the message of the nearest word; equals go to the earliest.
+/// Hard decoding for two and four phases: the message whose word is nearest to the symbols; equals go to the earliest
+/// label: path number, then c_1 to c_m, then c.
 ///
 /// The distance is the number of places that differ for h = 1, and the Lee distance for h = 2.
 /// Refuses a shape out of range, eight phases, a word that is not N long, and a symbol that is 2^h or more, with the
@@ -141,7 +145,7 @@ pub fn hard(h: u32, m: u32, word: &[u8]) -> Result<Closest, Refusal> {
 /// first such place, in this order; both areas then stay as they were.
 pub fn transform<'a>(m: u32, first: &'a mut [i32], second: &'a mut [i32]) -> Result<&'a mut [i32], Refusal> {
     let (mut area, mut place) = (0, 0);
-    // SAFETY: each pointer leads to as many entries as are said, or to a cell of this function; two `&mut` never overlap.
+    // SAFETY: each pointer leads to as many entries as are said, or to a cell of this function; no `&mut` overlaps.
     let kind = unsafe {
         let (first_length, second_length) = (first.len(), second.len());
         let (one, two) = (first.as_mut_ptr(), second.as_mut_ptr());

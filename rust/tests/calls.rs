@@ -48,6 +48,9 @@ fn decoding() {
     assert_eq!(soft(1, 2, &[-32768; 4]), Ok(loudest));
     let closest = Closest { message: Message(0), distance: 1, tied: false };
     assert_eq!(hard(1, 4, &symbols("1001001000011101")), Ok(closest));
+    let tied = Closest { message: Message(1), distance: 1, tied: true };
+    assert_eq!(hard(1, 2, &symbols("1111")), Ok(tied));
+    assert!(!soft(1, 2, &[9, 9, 9, -9]).unwrap().tied);
 }
 
 /// The spectrum of 1, 2, 3, 4 by hand: 10, -2, -4, 0; before the last stage 4, 6, -2, -2.
