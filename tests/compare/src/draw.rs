@@ -18,10 +18,10 @@ fn in_shape(h: u32, m: u32) -> bool {
     (1..=3).contains(&h) && (2..=5).contains(&m)
 }
 
-/// A shape, now and then one out of range.
+/// A shape, now and then one out of range, also one that would be in range with its upper bits cut off.
 pub fn shape(random: &mut Random) -> (u32, u32) {
-    let wrong_h = [0, 4, 5, 31, 32, 64, 255, u32::MAX];
-    let wrong_m = [0, 1, 6, 7, 31, 32, 63, 64, 255, u32::MAX];
+    let wrong_h = [0, 4, 5, 17, 32, 33, 64, 65, 255, 257, 65537, u32::MAX];
+    let wrong_m = [0, 1, 6, 7, 18, 32, 34, 63, 64, 66, 255, 258, 65538, u32::MAX];
     let (mut h, mut m) = (1 + random.below(3) as u32, 2 + random.below(4) as u32);
     if one_in(random, 16) {
         h = one_of(random, &wrong_h);
