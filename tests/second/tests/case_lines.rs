@@ -57,14 +57,14 @@ fn near_pairs_are_no_pairs() {
     let lines = cases::all(1999);
     let near = lines.iter().position(|line| line.starts_with("# pairs: no pair,")).unwrap();
     let family: Vec<&String> = lines[near + 1..].iter().take_while(|line| !line.starts_with('#')).collect();
-    assert!(family.len() > 60 && family.iter().all(|line| answer(line) == "no"));
+    assert!(family.len() > 200 && family.iter().all(|line| answer(line) == "no"));
 }
 
 #[test]
 fn the_whole_set_keeps_to_its_size() {
     for seed in [0, 1999, u64::MAX] {
         let lines = cases::all(seed);
-        assert!((5_000..=8_000).contains(&lines.len()));
+        assert!((5_000..=10_000).contains(&lines.len()));
         assert!(lines.iter().map(|line| line.len() + 1).sum::<usize>() <= 900_000);
         assert!(lines.iter().all(|line| line.len() <= 4_000));
     }

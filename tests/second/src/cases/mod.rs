@@ -1,9 +1,9 @@
 //! The case lines, family by family. One seed gives the same lines everywhere.
 
 mod areas;
+mod by_hand;
 mod damaged;
 mod hard;
-mod kept;
 mod known;
 mod messages;
 mod near_pairs;
@@ -13,14 +13,19 @@ mod refusals;
 mod soft;
 mod symbols;
 
+use std::collections::HashSet;
+use std::ops::Range;
+
+use crate::paths::paths;
 use crate::random::Random;
-use crate::shape::Shape;
+use crate::shape::{path_bits, Shape};
 use crate::text::{list_text, word_text};
-use crate::words::{encode, partner};
+use crate::words::{encode, partner, word, Label};
 
 /// All case lines, without their newlines. The first says how they were made.
 pub fn all(seed: u64) -> Vec<String> {
-    let mut cases = Cases { lines: vec![format!("# made by: second cases {seed}")], random: Random::new(seed) };
+    let mut cases = Cases { lines: Vec::new(), set: HashSet::new(), random: Random::new(seed) };
+    cases.family(&format!("made by: second cases {seed}"));
     for add in [
         known::add,
         messages::add,
@@ -32,27 +37,32 @@ pub fn all(seed: u64) -> Vec<String> {
         hard::add,
         soft::add,
         areas::add,
+        by_hand::add,
         damaged::add,
-        kept::add,
     ] {
         add(&mut cases);
     }
     cases.lines
 }
 
-/// The lines so far, and the numbers that the next ones draw from.
+/// The lines so far, in order and as a set, and the numbers that the next ones draw from.
 struct Cases {
     lines: Vec<String>,
+    set: HashSet<String>,
     random: Random,
 }
 
 impl Cases {
     fn family(&mut self, what: &str) {
-        self.lines.push(format!("# {what}"));
+        self.line(format!("# {what}"));
     }
 
+    /// A line that is there before is left out.
     fn line(&mut self, line: impl Into<String>) {
-        self.lines.push(line.into());
+        let line = line.into();
+        if self.set.insert(line.clone()) {
+            self.lines.push(line);
+        }
     }
 
     /// Encode or partner; the slice is what the output holds before.
@@ -90,6 +100,18 @@ impl Cases {
         word_of(shape, message)
     }
 
+    /// A message of this path, which is in use: the path number above, coefficients below.
+    fn message_of_path(&mut self, shape: Shape, path: usize) -> u64 {
+        let below = 1 << (shape.h() * (shape.m() + 1));
+        path as u64 * below + self.random.below(below)
+    }
+
+    /// A word of this path, in use or not.
+    fn word_of_path(&mut self, shape: Shape, path: usize) -> Vec<u8> {
+        let coefficients = self.random.word(shape.phases(), shape.m() as usize + 1);
+        word(shape, &Label { path, coefficients })
+    }
+
     fn place(&mut self, shape: Shape) -> usize {
         self.random.below(shape.carriers() as u64) as usize
     }
@@ -108,6 +130,22 @@ impl Cases {
             self.change(shape, word, place);
         }
     }
+}
+
+/// The numbers of the paths in use.
+fn in_use(shape: Shape) -> Range<usize> {
+    0..1 << path_bits(shape.m())
+}
+
+/// The numbers of the paths that are not in use.
+fn not_in_use(shape: Shape) -> Range<usize> {
+    in_use(shape).end..paths(shape.m()).len()
+}
+
+/// Every path in use, and these over again where they are fewer than the count.
+fn in_turn(shape: Shape, count: usize) -> impl Iterator<Item = usize> {
+    let paths = in_use(shape).end;
+    (0..count.max(paths)).map(move |number| number % paths)
 }
 
 fn word_of(shape: Shape, message: u64) -> Vec<u8> {

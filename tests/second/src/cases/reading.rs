@@ -1,18 +1,16 @@
-//! Word reading: words, damaged words, words of unused paths, random words.
+//! Word reading: words of every path, damaged words, random words.
 
-use super::{word_of, Cases};
-use crate::paths::paths;
-use crate::shape::{path_bits, Shape};
-use crate::words::{word, Label};
+use super::{in_turn, not_in_use, word_of, Cases};
+use crate::shape::Shape;
 
 pub fn add(cases: &mut Cases) {
-    cases.family("reading: words of messages, the same with one symbol damaged, random words");
+    cases.family("reading: words of every path in use, the same with one symbol damaged, random words");
     for shape in Shape::all() {
         for message in [0, shape.messages() - 1] {
             cases.read(shape.h(), shape.m(), &word_of(shape, message));
         }
-        for _ in 0..8 {
-            let mut word = cases.word(shape);
+        for path in in_turn(shape, 8) {
+            let mut word = cases.word_of_path(shape, path);
             cases.read(shape.h(), shape.m(), &word);
             cases.damage(shape, &mut word, 1);
             cases.read(shape.h(), shape.m(), &word);
@@ -24,10 +22,9 @@ pub fn add(cases: &mut Cases) {
     }
     cases.family("reading: words of paths that are not in use");
     for shape in Shape::all() {
-        for path in 1 << path_bits(shape.m())..paths(shape.m()).len() {
-            let phases = if path % 4 == 0 { 1 } else { shape.phases() };
-            let coefficients = cases.random.word(phases, shape.m() as usize + 1);
-            cases.read(shape.h(), shape.m(), &word(shape, &Label { path, coefficients }));
+        for path in not_in_use(shape) {
+            let word = cases.word_of_path(shape, path);
+            cases.read(shape.h(), shape.m(), &word);
         }
     }
 }

@@ -5,6 +5,9 @@ use crate::shape::Shape;
 
 const WRITERS: [&str; 2] = ["encode", "partner"];
 const AREA_CALLS: [&str; 3] = ["transform", "run", "look"];
+/// Out of range as they are, and the least in range where they are cut to 4, 5, 6, 8 or 16 bits.
+const FOLDED_H: [u32; 5] = [17, 33, 65, 257, 65_537];
+const FOLDED_M: [u32; 5] = [18, 34, 66, 258, 65_538];
 
 pub fn add(cases: &mut Cases) {
     cases.family("refusals: shapes out of range, with lengths, symbols and messages good and bad");
@@ -32,7 +35,12 @@ fn shapes(cases: &mut Cases) {
             }
         }
     }
-    for m in [0, 1, 6, 7, 31, 32, 63, 64, 255, u32::MAX] {
+    for (h, m) in FOLDED_H.into_iter().zip(FOLDED_M) {
+        shape_out_of_range(cases, h, 2);
+        shape_out_of_range(cases, 2, m);
+        shape_out_of_range(cases, h, m);
+    }
+    for m in [0, 1, 6, 7, 31, 32, 63, 64, 255, u32::MAX].into_iter().chain(FOLDED_M) {
         for call in AREA_CALLS {
             let length = cases.random.pick(&[4, 32, 64]);
             cases.areas(call, m, &vec![1; length], &vec![9; length]);

@@ -1,10 +1,21 @@
-//! Soft decoding: clean words at several levels, extremes, ties, noise.
+//! Soft decoding: clean words of every path, several levels, extremes, ties, noise.
 
-use super::{word_of, Cases};
-use crate::shape::Shape;
+use super::{in_use, not_in_use, word_of, Cases};
+use crate::shape::{digit, Shape};
 
 pub fn add(cases: &mut Cases) {
-    cases.family("soft decoding: clean words, extremes, zeros, ties, noise, random values");
+    cases.family("soft decoding: clean words of every path in use, then of those not in use");
+    for shape in Shape::all().filter(|shape| shape.h() < 3) {
+        for path in in_use(shape).chain(not_in_use(shape)) {
+            let word = cases.word_of_path(shape, path);
+            cases.soft(shape.h(), shape.m(), &at_level(shape, &word, 100));
+        }
+    }
+    cases.family("soft decoding: ties of one path alone");
+    for shape in Shape::all().filter(|shape| shape.h() < 3) {
+        within_a_path(cases, shape);
+    }
+    cases.family("soft decoding: levels, extremes, zeros, ties, noise, random values");
     for shape in Shape::all().filter(|shape| shape.h() < 3) {
         levels(cases, shape);
         extremes(cases, shape);
@@ -40,7 +51,7 @@ fn at_level(shape: Shape, word: &[u8], level: i16) -> Vec<i16> {
 }
 
 fn levels(cases: &mut Cases, shape: Shape) {
-    for level in [1, 100, 32_767] {
+    for level in [1, 32_767] {
         for message in [0, shape.messages() - 1, cases.message(shape)] {
             cases.soft(shape.h(), shape.m(), &at_level(shape, &word_of(shape, message), level));
         }
@@ -60,6 +71,17 @@ fn extremes(cases: &mut Cases, shape: Shape) {
         let values: Vec<i16> = (0..length).map(|_| cases.random.pick(&[i16::MIN, i16::MAX])).collect();
         cases.soft(h, m, &values);
     }
+}
+
+/// A word of path 0 with nothing heard where x_m = 1: the words that differ in c_m alone are tied, and no other,
+/// as no other path in use agrees with 1 2 .. m where x_m = 0.
+fn within_a_path(cases: &mut Cases, shape: Shape) {
+    let word = cases.word_of_path(shape, 0);
+    let mut values = at_level(shape, &word, 100);
+    for (index, value) in values.iter_mut().enumerate() {
+        *value *= 1 - digit(shape.m(), index / shape.h() as usize, shape.m()) as i16;
+    }
+    cases.soft(shape.h(), shape.m(), &values);
 }
 
 /// The sum of two words' values: each is as near as the other.
