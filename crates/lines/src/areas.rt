@@ -1,7 +1,7 @@
 // Lines of the transform, its core and the caller of it, and their answers:
 //   transform M LIST LIST    part LIST, or refused K, or refused 7 at place P; and areas LIST LIST
-//   run M LIST LIST          N areas LIST LIST: how many entries
-//   look M LIST LIST         T and K areas LIST LIST: what the caller sees
+//   run M LIST LIST          C areas LIST LIST: how many entries
+//   look M LIST LIST         T and O areas LIST LIST: what the caller sees
 // The lists given are both areas before, and those after `areas` both areas after.
 use crate::entries::take_list;
 use crate::parse::MOST;

@@ -6,14 +6,14 @@ use crate::parse::take_byte;
 use crate::parse::take_number;
 use crate::parse::take_open;
 ghost use Prim.Native.Nat.{_≤_};
-ghost use Rattle.lines.specs.Front.{Front};
+ghost use Rattle.lines.specs.Front.{HasFront};
 
 // What an entry is raised by.
 const RAISE: u64 = 2147483648;
 
 // A space and a list. The entries go to the front of the slice.
 pub fn take_list(line: &[u8], before: Piece, list: &mut [i32]) -> Piece
-    ensures { λ r. ⌜ Front (r .value) (now (list .exit)) ⌝ }
+    ensures { λ r. ⌜ HasFront (r .value) (now (list .exit)) ⌝ }
 {
     let entries = take_entries(line, take_open(line, before), list);
     let close = take_byte(line, entries, b']');
@@ -26,7 +26,7 @@ pub fn take_list(line: &[u8], before: Piece, list: &mut [i32]) -> Piece
 
 // As many entries as there are and the slice has room for.
 fn take_entries(line: &[u8], before: Piece, list: &mut [i32]) -> Piece
-    ensures { λ r. ⌜ Front (r .value) (now (list .exit)) ⌝ }
+    ensures { λ r. ⌜ HasFront (r .value) (now (list .exit)) ⌝ }
 {
     let mut last = before;
     let mut n = 0;

@@ -1,7 +1,7 @@
 // Answers case lines: a line holds one call of the library, and its answer is one line on standard output. A line that
 // begins with # is copied, and any other that is no call is answered `not a case`. Nothing of an answer is written
-// before the whole line is read. Words, values and areas hold the calls, telling what they answer, parse, symbols and
-// entries the pieces of a line.
+// before the whole line is read. Words, values and areas hold the calls, telling what those of words and values answer,
+// parse, symbols and entries the pieces of a line. tests/cases.md says the form of a line and of its answer.
 use libc::STDIN_FILENO;
 use show::say;
 ghost use Prim.Native.Nat.{_≤_};
@@ -37,7 +37,7 @@ fn read(text: &mut [u8]) {
 }
 
 // Answers each line of a text. A line ends with a newline; the last may do without.
-pub fn answers(text: &[u8]) {
+fn answers(text: &[u8]) {
     let mut at = 0;
     while at < text.len() {
         let end = line_end(text, at);

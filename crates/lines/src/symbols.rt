@@ -5,11 +5,11 @@ use crate::parse::take_byte;
 use crate::parse::take_number;
 use crate::parse::take_open;
 ghost use Prim.Native.Nat.{_≤_};
-ghost use Rattle.lines.specs.Front.{Front};
+ghost use Rattle.lines.specs.Front.{HasFront};
 
 // A space and a word. The symbols go to the front of the slice.
 pub fn take_word(line: &[u8], before: Piece, word: &mut [u8]) -> Piece
-    ensures { λ r. ⌜ Front (r .value) (now (word .exit)) ⌝ }
+    ensures { λ r. ⌜ HasFront (r .value) (now (word .exit)) ⌝ }
 {
     let symbols = take_symbols(line, take_open(line, before), word);
     let close = take_byte(line, symbols, b']');
@@ -22,7 +22,7 @@ pub fn take_word(line: &[u8], before: Piece, word: &mut [u8]) -> Piece
 
 // As many symbols as there are and the slice has room for.
 fn take_symbols(line: &[u8], before: Piece, word: &mut [u8]) -> Piece
-    ensures { λ r. ⌜ Front (r .value) (now (word .exit)) ⌝ }
+    ensures { λ r. ⌜ HasFront (r .value) (now (word .exit)) ⌝ }
 {
     let mut last = before;
     let mut n = 0;
@@ -44,13 +44,13 @@ fn take_symbol(line: &[u8], before: Piece) -> Piece
 {
     let open = take_byte(line, before, b'(');
     if open.there {
-        return take_large(line, open);
+        return take_enclosed(line, open);
     }
     take_digit(line, before)
 }
 
 // What stands behind an opening parenthesis.
-fn take_large(line: &[u8], open: Piece) -> Piece
+fn take_enclosed(line: &[u8], open: Piece) -> Piece
     ensures { λ r. ⌜ r .value ≤ 255 ⌝ }
 {
     let number = take_number(line, open, 255);

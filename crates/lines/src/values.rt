@@ -5,7 +5,7 @@ use crate::parse::ends;
 use crate::parse::take_name;
 use crate::parse::take_small;
 use crate::telling::tell_heard;
-ghost use Rattle.lines.specs.Front.{Front};
+ghost use Rattle.lines.specs.Front.{HasFront};
 
 // A number as one of 16 bits, where it fits.
 enum Short {
@@ -39,7 +39,7 @@ fn told(h: u32, m: u32, list: &[i32]) -> bool {
 
 // Puts the numbers of a list at the front of the values, up to the first that does not fit, and answers how many.
 fn narrow(list: &[i32], values: &mut [i16]) -> usize
-    ensures { λ r. ⌜ Front r (now (values .exit)) ⌝ }
+    ensures { λ r. ⌜ HasFront r (now (values .exit)) ⌝ }
 {
     let mut n = 0;
     while n < values.len() {

@@ -16,7 +16,7 @@ use crate::telling::tell_paired;
 use crate::telling::tell_reading;
 use crate::telling::tell_written;
 use kinds::MessageNumber;
-ghost use Rattle.lines.specs.Front.{Front};
+ghost use Rattle.lines.specs.Front.{HasFront};
 
 enum Call {
     Encode,
@@ -77,7 +77,7 @@ fn message_of(line: &[u8], before: Piece, call: Call) -> Piece {
 
 // The second word, which only the pair check has.
 fn other_of(line: &[u8], before: Piece, call: Call, word: &mut [u8]) -> Piece
-    ensures { λ r. ⌜ Front (r .value) (now (word .exit)) ⌝ }
+    ensures { λ r. ⌜ HasFront (r .value) (now (word .exit)) ⌝ }
 {
     if let Call::Pair = call {
         return take_word(line, before, word);

@@ -1,6 +1,7 @@
 -- Only one ending keeps the promise of each call: two that start from the same inputs and the same cells end with the
--- same number, cells and slices. In order: encode and partner; the pair check; word reading; soft decoding, its outcome
--- first; hard decoding; the question about the transform, and the transform.  Assumes nothing.
+-- same number, cells and slices written; the contract's other clause fixes the slices that are only read.
+-- In order: encode and partner; the pair check; word reading; soft decoding, its outcome first; hard decoding; the
+-- question about the transform, and the transform.  Assumes nothing.
 use Prim.Native.Nat.{ℕ}
 use mathlib.Core.Path.{_≡_, sym, _∙_, ap}
 use mathlib.Core.Bool.{Bool}
@@ -14,7 +15,7 @@ use Rattle.decoder.specs.declared.Matched.the-variants.{Found as Matched·Found
 use Rattle.decoder.specs.Told.{heardTold, matchedTold}
 use Rattle.decoder.proofs.Outcomes.{hears-unique, matches-unique}
 use Rattle.sharqudel.specs.Out.{SentOut, CheckedOut, ReadOut, SoftOut, HardOut, JudgedOut, TransformedOut}
-use Rattle.sharqudel.proofs.CrossingLaws.{number-same, given-same, carried-same}
+use Rattle.sharqudel.proofs.CrossingLaws.{kindOf-cong, givenOr-cong, carriedOr-cong}
 
 module _ {h m g : ℕ} {word d : List ℕ} where
   pub sentOut-unique : {r s : ℕ} {x y : List ℕ} → SentOut h m g word d r x → SentOut h m g word d s y →
@@ -37,45 +38,45 @@ module _ {o : Outcome ℕ} {g₀ p₀ : ℕ} where
   readOut-unique p q = (p .number ∙ sym (q .number), p .message ∙ sym (q .message), p .place ∙ sym (q .place))
 
 module _ (h m : ℕ) (ys : List ℤ) where
-  heard-unique : (o u : Outcome (ℕ × ℤ × Bool)) → SoftOutcome h m ys o → SoftOutcome h m ys u → o ≡ u
-  heard-unique (gives a) (gives b) p q =
+  softOutcome-unique : (o u : Outcome (ℕ × ℤ × Bool)) → SoftOutcome h m ys o → SoftOutcome h m ys u → o ≡ u
+  softOutcome-unique (gives a) (gives b) p q =
       ap heardTold
       (hears-unique h m ys (Heard·Found (record { message = record { 0 = a .0 }; correlation = a .1; tied = a .2 }))
       (Heard·Found (record { message = record { 0 = b .0 }; correlation = b .1; tied = b .2 })) p q)
-  heard-unique (gives a) (refuses k v) p q = absurd (gives-not-refuses (sym (p .taken) ∙ q))
-  heard-unique (refuses k v) (gives a) p q = absurd (gives-not-refuses (sym (q .taken) ∙ p))
-  heard-unique (refuses k v) (refuses j w) p q = let e = sym p ∙ q in cc
+  softOutcome-unique (gives a) (refuses k v) p q = absurd (gives-not-refuses (sym (p .taken) ∙ q))
+  softOutcome-unique (refuses k v) (gives a) p q = absurd (gives-not-refuses (sym (q .taken) ∙ p))
+  softOutcome-unique (refuses k v) (refuses j w) p q = let e = sym p ∙ q in cc
 
 pub softOut-unique : {h m : ℕ} {ys : List ℤ} {r s g₀ g k : ℕ} {v₀ v w : ℤ} {t₀ t u : Bool} →
     SoftOut h m ys r g₀ g v₀ v t₀ t → SoftOut h m ys s g₀ k v₀ w t₀ u → (r ≡ s) × (g ≡ k) × (v ≡ w) × (t ≡ u)
 softOut-unique {h} {m} {ys} {g₀ = g₀} {v₀ = v₀} {t₀ = t₀} p q =
-    let e = heard-unique h m ys (p .outcome) (q .outcome) (p .heard) (q .heard) in (
-      p .number ∙ number-same e ∙ sym (q .number),
-      p .message ∙ given-same e (λ a. a .0) g₀ ∙ sym (q .message),
-      p .correlation ∙ given-same e (λ a. a .1) v₀ ∙ sym (q .correlation),
-      p .tied ∙ given-same e (λ a. a .2) t₀ ∙ sym (q .tied),
+    let e = softOutcome-unique h m ys (p .outcome) (q .outcome) (p .heard) (q .heard) in (
+      p .number ∙ kindOf-cong e ∙ sym (q .number),
+      p .message ∙ givenOr-cong e (λ a. a .0) g₀ ∙ sym (q .message),
+      p .correlation ∙ givenOr-cong e (λ a. a .1) v₀ ∙ sym (q .correlation),
+      p .tied ∙ givenOr-cong e (λ a. a .2) t₀ ∙ sym (q .tied),
     )
 
 module _ (h m : ℕ) (word : List ℕ) where
-  matched-unique : (o u : Outcome (ℕ × ℕ × Bool)) → HardOutcome h m word o → HardOutcome h m word u → o ≡ u
-  matched-unique (gives a) (gives b) p q =
+  hardOutcome-unique : (o u : Outcome (ℕ × ℕ × Bool)) → HardOutcome h m word o → HardOutcome h m word u → o ≡ u
+  hardOutcome-unique (gives a) (gives b) p q =
       ap matchedTold
       (matches-unique h m word (Matched·Found (record { message = record { 0 = a .0 }; distance = a .1; tied = a .2 }))
       (Matched·Found (record { message = record { 0 = b .0 }; distance = b .1; tied = b .2 })) p q)
-  matched-unique (gives a) (refuses k v) p q = absurd (gives-not-refuses (sym (p .taken) ∙ q))
-  matched-unique (refuses k v) (gives a) p q = absurd (gives-not-refuses (sym (q .taken) ∙ p))
-  matched-unique (refuses k v) (refuses j w) p q = let e = sym p ∙ q in cc
+  hardOutcome-unique (gives a) (refuses k v) p q = absurd (gives-not-refuses (sym (p .taken) ∙ q))
+  hardOutcome-unique (refuses k v) (gives a) p q = absurd (gives-not-refuses (sym (q .taken) ∙ p))
+  hardOutcome-unique (refuses k v) (refuses j w) p q = let e = sym p ∙ q in cc
 
-pub hardOut-unique : {h m : ℕ} {word : List ℕ} {r s g₀ g k d₀ d e : ℕ} {t₀ t u : Bool} {p₀ i j : ℕ} →
-    HardOut h m word r g₀ g d₀ d t₀ t p₀ i → HardOut h m word s g₀ k d₀ e t₀ u p₀ j →
-    (r ≡ s) × (g ≡ k) × (d ≡ e) × (t ≡ u) × (i ≡ j)
+pub hardOut-unique : {h m : ℕ} {word : List ℕ} {r s g₀ g k d₀ d d′ : ℕ} {t₀ t u : Bool} {p₀ i j : ℕ} →
+    HardOut h m word r g₀ g d₀ d t₀ t p₀ i → HardOut h m word s g₀ k d₀ d′ t₀ u p₀ j →
+    (r ≡ s) × (g ≡ k) × (d ≡ d′) × (t ≡ u) × (i ≡ j)
 hardOut-unique {h} {m} {word} {g₀ = g₀} {d₀ = d₀} {t₀ = t₀} {p₀ = p₀} p q =
-    let e = matched-unique h m word (p .outcome) (q .outcome) (p .matched) (q .matched) in (
-      p .number ∙ number-same e ∙ sym (q .number),
-      p .message ∙ given-same e (λ a. a .0) g₀ ∙ sym (q .message),
-      p .distance ∙ given-same e (λ a. a .1) d₀ ∙ sym (q .distance),
-      p .tied ∙ given-same e (λ a. a .2) t₀ ∙ sym (q .tied),
-      p .place ∙ carried-same e 0 p₀ ∙ sym (q .place),
+    let e = hardOutcome-unique h m word (p .outcome) (q .outcome) (p .matched) (q .matched) in (
+      p .number ∙ kindOf-cong e ∙ sym (q .number),
+      p .message ∙ givenOr-cong e (λ a. a .0) g₀ ∙ sym (q .message),
+      p .distance ∙ givenOr-cong e (λ a. a .1) d₀ ∙ sym (q .distance),
+      p .tied ∙ givenOr-cong e (λ a. a .2) t₀ ∙ sym (q .tied),
+      p .place ∙ carriedOr-cong e 0 p₀ ∙ sym (q .place),
     )
 
 pub judgedOut-unique : {o : Outcome (Unit {0})} {p₀ r s i j : ℕ} → JudgedOut o r p₀ i → JudgedOut o s p₀ j →

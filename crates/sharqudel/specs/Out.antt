@@ -1,5 +1,6 @@
--- What comes out of each exported call: its number r, and what every cell and slice holds afterwards, in terms of the
--- outcome that 01 gives the call. A name with ₀ is what a cell held before.
+-- What comes out of each exported call: its number r, and what every cell and every slice that it may write holds
+-- afterwards, in terms of the outcome that 01 gives the call. A slice that is only read has a clause of its own in the
+-- contract. A name with ₀ is what a cell held before.
 -- Defines:  SentOut h m g word d r d′          encode and partner: the slice held d, and then d′
 --           CheckedOut o r b₀ b p₀ p w₀ w      the pair check: whether a pair, the place, which word
 --           ReadOut o r g₀ g p₀ p              word reading: the message, the place
@@ -61,6 +62,6 @@ pub record JudgedOut (o : Outcome (Unit {0})) (r p₀ p : ℕ) : Type 0 where
 
 pub record TransformedOut (m : ℕ) (a b : List ℤ) (r n₀ n p₀ p : ℕ) (a′ b′ : List ℤ) : Type 0 where
   pub told : JudgedOut (transformRefusal m a (length b)) r p₀ p
-  pub area : n ≡ givenOr (transformRefusal m a (length b)) (λ u. areaOf m) n₀
+  pub area : n ≡ leaves (transformRefusal m a (length b)) n₀ (areaOf m)
   pub first : a′ ≡ firstAfter m a b
   pub second : b′ ≡ secondAfter m a b

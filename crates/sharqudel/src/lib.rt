@@ -40,8 +40,8 @@ pub extern "C" fn sharqudel_partner(h: u32, m: u32, message: u64, out: &mut [u8]
     written(encoder::partner(h, m, MessageNumber(message), out))
 }
 
-// Whether two words are a Golay pair, into pair. Refuses 1, 2 and 3, with the first bad place into place, and 1 for the
-// first word or 2 for the second into which. Both words are only read.
+// Whether two words are a Golay pair, into pair. Refuses 1, 2 and 3, 3 with the first bad place into place and the
+// number of its word, 1 or 2, into which; the first word is looked through first. Both words are only read.
 #[no_mangle]
 pub extern "C" fn sharqudel_check(
     h: u32,
@@ -96,8 +96,8 @@ pub extern "C" fn sharqudel_read(
     }
 }
 
-// The message of greatest correlation with the values, its correlation, and whether another word has it too. Refuses 1,
-// 6 and 2. The values are only read.
+// The message of greatest correlation with the values, its correlation, and whether another word has it too. Only paths
+// in use are searched, and equals go to the earliest label. Refuses 1, 6 and 2. The values are only read.
 #[no_mangle]
 pub extern "C" fn sharqudel_soft(
     h: u32,
@@ -124,8 +124,9 @@ pub extern "C" fn sharqudel_soft(
     }
 }
 
-// The message of the word nearest to the symbols, its distance, and whether another word has it too. Refuses 1, 6, 2
-// and 3, 3 with the first bad place into place. The word is only read.
+// The message of the word nearest to the symbols, its distance, and whether another word has it too. Only paths in use
+// are searched, and equals go to the earliest label. Refuses 1, 6, 2 and 3, 3 with the first bad place into place. The
+// word is only read.
 #[no_mangle]
 pub extern "C" fn sharqudel_hard(
     h: u32,
@@ -168,8 +169,9 @@ pub extern "C" fn sharqudel_refusal(m: u32, first: &[i32], second: &[i32], place
 }
 
 // Transforms the first N entries of the first area between the two. The spectrum is then the first N entries of the
-// area whose number, 1 or 2, goes into area: the first for even m, the second for odd m. Refuses 1, 2 and 7, 7 with the
-// first bad place into place; both areas then stay as they were.
+// area whose number, 1 or 2, goes into area: the first for even m, the second for odd m. The other area then holds what
+// stood after stage m - 1, and entries from N on stay. Refuses 1, 2 and 7, 7 with the first bad place into place; both
+// areas then stay as they were.
 #[no_mangle]
 pub extern "C" fn sharqudel_transform(
     m: u32,

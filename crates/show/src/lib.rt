@@ -63,7 +63,7 @@ fn value(x: i16) {
     spaced(x as i32);
 }
 
-// The symbols of a word, one digit each.
+// The symbols of a word, one behind the other, without brackets.
 pub fn symbols(word: &[u8]) {
     let mut i = 0;
     while i < word.len() {

@@ -2,8 +2,8 @@
 -- Assumes nothing.
 use mathlib.Core.Path.{refl}
 use borrow.Author.Needs.{needs}
-use Rattle.sharqudel.proofs.OutLaws.{checked-given, checked-refused}
-use Rattle.sharqudel.proofs.Rows.{pair-listed}
+use Rattle.sharqudel.proofs.OutLaws.{checkedOut-given, checkedOut-refused}
+use Rattle.sharqudel.proofs.Carried.{pairOutcome-listed}
 use Rattle.sharqudel.proofs.sharqudel_check.Statement.{statement}
 use Rattle.sharqudel.proofs.sharqudel_check.Tie as tie
 
@@ -26,18 +26,18 @@ tell-requires : tie.Need-tell-requires
 tell-requires c κs = search needs
 
 returns : tie.Need-returns
-returns c = (checked-given (rw (c .enum-told .given .1) at (c .before .before .check .ensures .0)), (refl, refl))
+returns c = (checkedOut-given (rw (c .enum-told .given .1) at (c .before .before .check .ensures .0)), (refl, refl))
 
 returns-2 : tie.Need-returns-2
-returns-2 c = (checked-given (rw (c .enum-told2 .given .1) at (c .before .before .check .ensures .0)), (refl, refl))
+returns-2 c = (checkedOut-given (rw (c .enum-told2 .given .1) at (c .before .before .check .ensures .0)), (refl, refl))
 
 returns-3 : tie.Need-returns-3
 returns-3 c =
     let named = c .before .before in
     let arm = named .before .before .before in
     let told = rw (arm .why .given .1) at (arm .before .before .check .ensures .0) in (
-      checked-refused (arm .why .given .0 .0) (arm .why .given .0 .1 .0) (pair-listed _ _ _ _) told (c .tell .ensures)
-          (named .name .ensures),
+      checkedOut-refused (arm .why .given .0 .0) (arm .why .given .0 .1 .0) (pairOutcome-listed _ _ _ _) told
+          (c .tell .ensures) (named .name .ensures),
       (refl, refl),
     )
 

@@ -1,7 +1,7 @@
 -- `sharqudel::sharqudel_encode` meets its contract: it hands on what `encode` promises, and its answer's number.
 -- Assumes nothing.
 use borrow.Author.Needs.{needs}
-use Rattle.sharqudel.proofs.OutLaws.{sent-out}
+use Rattle.sharqudel.proofs.OutLaws.{sentOut-of-sent}
 use Rattle.sharqudel.proofs.sharqudel_encode.Statement.{statement}
 use Rattle.sharqudel.proofs.sharqudel_encode.Tie as tie
 
@@ -15,7 +15,7 @@ same-length : tie.Need-same-length
 same-length c = search needs
 
 returns : tie.Need-returns
-returns c = sent-out _ (c .before .before .before .encode .ensures) (c .written .ensures)
+returns c = sentOut-of-sent _ (c .before .before .before .encode .ensures) (c .written .ensures)
 
 pub sharqudel-encode-spec : {M : Type 1} → statement M
 sharqudel-encode-spec = tie.close (tie.spec encode-requires written-requires same-length returns)

@@ -2,7 +2,7 @@
 -- Assumes nothing.
 use mathlib.Core.Path.{refl}
 use borrow.Author.Needs.{needs}
-use Rattle.sharqudel.proofs.OutLaws.{hard-given, hard-refused}
+use Rattle.sharqudel.proofs.OutLaws.{hardOut-given, hardOut-refused}
 use Rattle.sharqudel.proofs.sharqudel_hard.Statement.{statement}
 use Rattle.sharqudel.proofs.sharqudel_hard.Tie as tie
 
@@ -20,13 +20,13 @@ tell-requires c κs = search needs
 
 returns : tie.Need-returns
 returns c = let arm = c .before .before in (
-  hard-given (rw (arm .found .given .1) at (arm .before .before .hard .ensures .0)),
+  hardOut-given (rw (arm .found .given .1) at (arm .before .before .hard .ensures .0)),
   refl,
 )
 
 returns-2 : tie.Need-returns-2
 returns-2 c = let arm = c .before .before .before in (
-  hard-refused (arm .why .given .0 .0) (rw (arm .why .given .1) at (arm .before .before .hard .ensures .0))
+  hardOut-refused (arm .why .given .0 .0) (rw (arm .why .given .1) at (arm .before .before .hard .ensures .0))
       (c .tell .ensures),
   refl,
 )

@@ -1,7 +1,7 @@
 -- `sharqudel::sharqudel_partner` meets its contract: it hands on what `partner` promises, and its answer's number.
 -- Assumes nothing.
 use borrow.Author.Needs.{needs}
-use Rattle.sharqudel.proofs.OutLaws.{sent-out}
+use Rattle.sharqudel.proofs.OutLaws.{sentOut-of-sent}
 use Rattle.sharqudel.proofs.sharqudel_partner.Statement.{statement}
 use Rattle.sharqudel.proofs.sharqudel_partner.Tie as tie
 
@@ -15,7 +15,7 @@ same-length : tie.Need-same-length
 same-length c = search needs
 
 returns : tie.Need-returns
-returns c = sent-out _ (c .before .before .before .partner .ensures) (c .written .ensures)
+returns c = sentOut-of-sent _ (c .before .before .before .partner .ensures) (c .written .ensures)
 
 pub sharqudel-partner-spec : {M : Type 1} → statement M
 sharqudel-partner-spec = tie.close (tie.spec partner-requires written-requires same-length returns)

@@ -2,7 +2,7 @@
 -- Assumes nothing.
 use mathlib.Core.Path.{refl}
 use borrow.Author.Needs.{needs}
-use Rattle.sharqudel.proofs.OutLaws.{read-given, read-refused}
+use Rattle.sharqudel.proofs.OutLaws.{readOut-given, readOut-refused}
 use Rattle.sharqudel.proofs.sharqudel_read.Statement.{statement}
 use Rattle.sharqudel.proofs.sharqudel_read.Tie as tie
 
@@ -20,13 +20,13 @@ tell-requires c κs = search needs
 
 returns : tie.Need-returns
 returns c = let arm = c .before in (
-  read-given (rw (arm .found .given .1) at (arm .before .before .read .ensures .0)),
+  readOut-given (rw (arm .found .given .1) at (arm .before .before .read .ensures .0)),
   refl,
 )
 
 returns-2 : tie.Need-returns-2
 returns-2 c = let arm = c .before .before .before in (
-  read-refused (arm .why .given .0 .0) (rw (arm .why .given .1) at (arm .before .before .read .ensures .0))
+  readOut-refused (arm .why .given .0 .0) (rw (arm .why .given .1) at (arm .before .before .read .ensures .0))
       (c .tell .ensures),
   refl,
 )

@@ -2,7 +2,7 @@
 -- Assumes nothing.
 use mathlib.Core.Path.{refl}
 use borrow.Author.Needs.{needs}
-use Rattle.sharqudel.proofs.OutLaws.{judged-allowed, judged-refused}
+use Rattle.sharqudel.proofs.OutLaws.{judgedOut-allowed, judgedOut-refused}
 use Rattle.sharqudel.proofs.sharqudel_refusal.Statement.{statement}
 use Rattle.sharqudel.proofs.sharqudel_refusal.Tie as tie
 
@@ -19,11 +19,11 @@ tell-requires : tie.Need-tell-requires
 tell-requires c κs = search needs
 
 returns : tie.Need-returns
-returns c = (judged-allowed (rw (c .enum-told .given .1) at (c .before .before .refusal .ensures .0)), (refl, refl))
+returns c = (judgedOut-allowed (rw (c .enum-told .given .1) at (c .before .before .refusal .ensures .0)), (refl, refl))
 
 returns-2 : tie.Need-returns-2
 returns-2 c = let arm = c .before .before .before in (
-  judged-refused (arm .why .given .0 .0) (rw (arm .why .given .1) at (arm .before .before .refusal .ensures .0))
+  judgedOut-refused (arm .why .given .0 .0) (rw (arm .why .given .1) at (arm .before .before .refusal .ensures .0))
       (c .tell .ensures),
   (refl, refl),
 )

@@ -5,7 +5,7 @@ use mir.Syntax.{w32}
 use mir.Val.{SFits}
 use mir.ValLaws.{toZ-ofZ}
 use borrow.Author.Needs.{needs}
-use Rattle.sharqudel.proofs.OutLaws.{soft-given, soft-refused}
+use Rattle.sharqudel.proofs.OutLaws.{softOut-given, softOut-refused}
 use Rattle.sharqudel.proofs.sharqudel_soft.Statement.{statement}
 use Rattle.sharqudel.proofs.sharqudel_soft.Tie as tie
 
@@ -27,12 +27,12 @@ returns c =
     let arm = c .before .before .before in
     let loudest = arm .found .given .0 .0 in
     let fits : SFits w32 (loudest .correlation) = record { sfits = c .struct-told .given .1 .0 .1 } in
-    let heard = soft-given (rw (arm .found .given .1) at (arm .before .before .soft .ensures .0)) in
+    let heard = softOut-given (rw (arm .found .given .1) at (arm .before .before .soft .ensures .0)) in
     (rw (toZ-ofZ w32 (loudest .correlation) fits) heard, refl)
 
 returns-2 : tie.Need-returns-2
 returns-2 c = let arm = c .before .before in (
-  soft-refused (arm .why .given .0 .0) (rw (arm .why .given .1) at (arm .before .before .soft .ensures .0))
+  softOut-refused (arm .why .given .0 .0) (rw (arm .why .given .1) at (arm .before .before .soft .ensures .0))
       (c .number .ensures),
   refl,
 )

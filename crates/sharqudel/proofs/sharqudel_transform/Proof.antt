@@ -1,7 +1,7 @@
 -- `sharqudel::sharqudel_transform` meets its contract: it asks for the refusal, and where there is none the stages run.
 -- Assumes nothing.
 use borrow.Author.Needs.{needs}
-use Rattle.sharqudel.proofs.OutLaws.{transformed-allowed, transformed-refused}
+use Rattle.sharqudel.proofs.OutLaws.{transformedOut-allowed, transformedOut-refused}
 use Rattle.sharqudel.proofs.sharqudel_transform.Statement.{statement}
 use Rattle.sharqudel.proofs.sharqudel_transform.Tie as tie
 
@@ -34,7 +34,7 @@ returns c =
     let ran = c .before .before in
     let arm = ran .before .before .before in
     let told = rw (arm .enum-told .given .1) at (arm .before .before .refusal .ensures .0) in
-    transformed-allowed _ _ _ _ _ told (ran .run .ensures)
+    transformedOut-allowed _ _ _ _ _ told (ran .run .ensures)
 
 same-length-3 : tie.Need-same-length-3
 same-length-3 c = search needs
@@ -46,7 +46,7 @@ returns-2 : tie.Need-returns-2
 returns-2 c =
     let arm = c .before .before .before in
     let told = rw (arm .why .given .1) at (arm .before .before .refusal .ensures .0) in
-    transformed-refused _ _ _ _ _ (arm .why .given .0 .0) told (c .tell .ensures)
+    transformedOut-refused _ _ _ _ _ (arm .why .given .0 .0) told (c .tell .ensures)
 
 pub sharqudel-transform-spec : {M : Type 1} → statement M
 sharqudel-transform-spec =

@@ -6,7 +6,7 @@ use native.Mathlib.Omega.{arith}
 use mathlib.Core.Path.{_≡_}
 use lib.ListN.{length, length-set}
 use borrow.Author.Needs.{needs}
-use Rattle.lines.proofs.Fronts.{front}
+use Rattle.lines.proofs.Fronts.{hasFront-of-le}
 use Rattle.lines.proofs.entries.take_entries.Statement.{statement}
 use Rattle.lines.proofs.entries.take_entries.Tie as tie
 
@@ -29,7 +29,7 @@ same-length : tie.Need-same-length Inv-loop μ-loop
 same-length c = search needs
 
 returns : tie.Need-returns Inv-loop μ-loop
-returns c = front _ _ (omega arith)
+returns c = hasFront-of-le _ _ (omega arith)
 
 lowered-requires : tie.Need-lowered-requires Inv-loop μ-loop
 lowered-requires c κs = search needs
@@ -56,7 +56,7 @@ same-length-2 : tie.Need-same-length-2 Inv-loop μ-loop
 same-length-2 c = search needs
 
 returns-2 : tie.Need-returns-2 Inv-loop μ-loop
-returns-2 c = front _ _ (omega arith)
+returns-2 c = hasFront-of-le _ _ (omega arith)
 
 pub take-entries-spec : {M : Type 1} → statement M
 take-entries-spec =

@@ -6,7 +6,7 @@ use native.Mathlib.Omega.{arith}
 use mathlib.Core.Path.{_≡_}
 use lib.ListN.{length, length-set}
 use borrow.Author.Needs.{needs}
-use Rattle.lines.proofs.Fronts.{front}
+use Rattle.lines.proofs.Fronts.{hasFront-of-le}
 use Rattle.lines.proofs.symbols.take_symbols.Statement.{statement}
 use Rattle.lines.proofs.symbols.take_symbols.Tie as tie
 
@@ -29,7 +29,7 @@ same-length : tie.Need-same-length Inv-loop μ-loop
 same-length c = search needs
 
 returns : tie.Need-returns Inv-loop μ-loop
-returns c = front _ _ (omega arith)
+returns c = hasFront-of-le _ _ (omega arith)
 
 cast-word : tie.Need-cast-word Inv-loop μ-loop
 cast-word c = search needs
@@ -53,7 +53,7 @@ same-length-2 : tie.Need-same-length-2 Inv-loop μ-loop
 same-length-2 c = search needs
 
 returns-2 : tie.Need-returns-2 Inv-loop μ-loop
-returns-2 c = front _ _ (omega arith)
+returns-2 c = hasFront-of-le _ _ (omega arith)
 
 pub take-symbols-spec : {M : Type 1} → statement M
 take-symbols-spec =

@@ -6,7 +6,7 @@ use native.Mathlib.Omega.{arith}
 use mathlib.Core.Path.{_≡_}
 use lib.ListN.{length, length-set}
 use borrow.Author.Needs.{needs}
-use Rattle.lines.proofs.Fronts.{front}
+use Rattle.lines.proofs.Fronts.{hasFront-of-le}
 use Rattle.lines.proofs.values.narrow.Statement.{statement}
 use Rattle.lines.proofs.values.narrow.Tie as tie
 
@@ -23,7 +23,7 @@ same-length : tie.Need-same-length Inv-loop μ-loop
 same-length c = search needs
 
 returns : tie.Need-returns Inv-loop μ-loop
-returns c = search (needs, front)
+returns c = search (needs, hasFront-of-le)
 
 mul-short-of : tie.Need-mul-short-of Inv-loop μ-loop
 mul-short-of c = search needs
@@ -44,7 +44,7 @@ same-length-2 : tie.Need-same-length-2 Inv-loop μ-loop
 same-length-2 c = search needs
 
 returns-2 : tie.Need-returns-2 Inv-loop μ-loop
-returns-2 c = search (needs, front)
+returns-2 c = search (needs, hasFront-of-le)
 
 mul-value : tie.Need-mul-value Inv-loop μ-loop
 mul-value c = search needs
@@ -65,7 +65,7 @@ same-length-3 : tie.Need-same-length-3 Inv-loop μ-loop
 same-length-3 c = search needs
 
 returns-3 : tie.Need-returns-3 Inv-loop μ-loop
-returns-3 c = search (needs, front)
+returns-3 c = search (needs, hasFront-of-le)
 
 pub narrow-spec : {M : Type 1} → statement M
 narrow-spec =

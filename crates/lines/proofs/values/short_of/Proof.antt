@@ -1,4 +1,4 @@
--- `lines::values::short_of` meets its contract: what is neither below -32,768 nor above 32,767 fits 16 bits.
+-- `lines::values::short_of` casts within range: what is neither below -32,768 nor above 32,767 fits 16 bits.
 -- Assumes nothing.
 use native.Mathlib.Omega.{arith}
 use mathlib.Core.Path.{_≡_}
