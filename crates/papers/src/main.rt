@@ -1,4 +1,5 @@
-// Answers the case lines of standard input, each on standard output. They are transcribed from the papers.
+// Answers the case lines of standard input, each on standard output. They are transcribed from 01 and the papers
+// (tests/papers.md).
 fn main() {
     lines::run();
 }

@@ -1,4 +1,4 @@
-// Answers the case lines of standard input, each on standard output. They are made by an independent program.
+// Answers the case lines of standard input, each on standard output. They are made by the second program (tests/second).
 fn main() {
     lines::run();
 }
