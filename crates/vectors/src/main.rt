@@ -1,4 +1,5 @@
-// Answers the case lines of standard input, each on standard output. They are made by the second program (tests/second).
+// Answers the case lines of standard input, each on standard output. They are made by the second program
+// (tests/second).
 fn main() {
     lines::run();
 }
