@@ -12,7 +12,7 @@ const TRANSFORMS: [&str; 2] = ["the plain loop", "the sum"];
 
 /// All cases, with inputs from a seed.
 pub fn all(seed: u64) -> Vec<Case> {
-    let mut draw = Draw(seed);
+    let mut draw = Draw::new(seed);
     let mut cases = Vec::new();
     for h in [1, 2] {
         for m in 2..=5 {

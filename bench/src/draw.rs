@@ -1,20 +1,17 @@
-//! Numbers from a seed, in whole numbers alone, so that a seed gives the same on every computer.
+//! Draws for the benchmark and the pictures, in whole numbers alone, so that a seed gives the same on every computer.
 
-/// The generator SplitMix64.
-pub struct Draw(pub u64);
+use second::Random;
+
+pub struct Draw(Random);
 
 impl Draw {
-    fn next(&mut self) -> u64 {
-        self.0 = self.0.wrapping_add(0x9e37_79b9_7f4a_7c15);
-        let mut z = self.0;
-        z = (z ^ (z >> 30)).wrapping_mul(0xbf58_476d_1ce4_e5b9);
-        z = (z ^ (z >> 27)).wrapping_mul(0x94d0_49bb_1331_11eb);
-        z ^ (z >> 31)
+    pub fn new(seed: u64) -> Draw {
+        Draw(Random::new(seed))
     }
 
     /// A number below `bound`, which is at most 2^32.
     pub fn below(&mut self, bound: usize) -> usize {
-        (((self.next() >> 32) * bound as u64) >> 32) as usize
+        (((self.0.next() >> 32) * bound as u64) >> 32) as usize
     }
 
     /// Noise of mean 0 and the given spread (standard deviation): a sum of twelve draws, never beyond six spreads.

@@ -1,5 +1,5 @@
-//! Shapes and words by document 01's formula. Digit x_1 of a place is the most significant; message numbers hold the
-//! path number highest, then c_1 to c_m, and c lowest.
+//! Shapes and words by document 01's formula; the paths are the second program's (tests/second). Digit x_1 of a place is
+//! the most significant; message numbers hold the path number highest, then c_1 to c_m, and c lowest.
 
 #[derive(Clone, Copy, Debug)]
 pub struct Shape {
@@ -20,19 +20,14 @@ impl Shape {
     }
 
     pub fn messages(self) -> usize {
-        self.paths_used() << (self.h * (self.m + 1))
-    }
-
-    fn paths_used(self) -> usize {
-        1 << [0, 1, 3, 5][self.m - 2]
+        second::messages(self.h as u32, self.m as u32) as usize
     }
 
     /// The paths in use, in dictionary order.
     pub fn paths(self) -> Vec<Path> {
-        let mut found = Vec::new();
-        extend(self.m, &mut Vec::new(), &mut found);
-        found.truncate(self.paths_used());
-        found
+        let used = 1 << second::path_bits(self.m as u32);
+        let numbers = |path: &second::Path| path.iter().map(|k| *k as usize).collect();
+        second::paths(self.m as u32)[..used].iter().map(numbers).collect()
     }
 
     /// The words of all messages, one after the other.
@@ -65,23 +60,6 @@ impl Shape {
                 sum += q / 2 * x(path[k - 1]) * x(path[k]);
             }
             *symbol = (sum % q) as u8;
-        }
-    }
-}
-
-/// Adds the paths that begin with `path`, in dictionary order.
-fn extend(m: usize, path: &mut Path, found: &mut Vec<Path>) {
-    if path.len() == m {
-        if path[0] < path[m - 1] {
-            found.push(path.clone());
-        }
-        return;
-    }
-    for next in 1..=m {
-        if !path.contains(&next) {
-            path.push(next);
-            extend(m, path, found);
-            path.pop();
         }
     }
 }

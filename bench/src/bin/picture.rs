@@ -132,7 +132,7 @@ fn damage_panel(svg: &mut Svg, curves: &[(Kind, Curve, usize)]) {
 fn main() -> Result<(), Box<dyn Error>> {
     let seed: u64 = std::env::args().nth(1).ok_or("a seed is asked for")?.parse()?;
     println!("seed {seed}, {TRIALS} trials for each point; messages found at each point:");
-    let mut draw = Draw(seed);
+    let mut draw = Draw::new(seed);
     let (soft_two, hard_two) = with_noise(&mut draw, 1)?;
     let (soft_four, hard_four) = with_noise(&mut draw, 2)?;
     let noise = [(SOFT_TWO, soft_two), (HARD_TWO, hard_two), (SOFT_FOUR, soft_four), (HARD_FOUR, hard_four)];

@@ -1,6 +1,5 @@
 -- Each call keeps its promise: this crate's Out. For each call, what it leaves where the crate below gives an answer,
--- and what it leaves where that refuses, from what `tell`, `name`, `number`
--- and `written` ensure.
+-- and what it leaves where that refuses, from what `tell`, `name`, `number` and `written` ensure.
 -- In order: encode and partner; the pair check; word reading; soft decoding; hard decoding; the question about the
 -- transform; the transform.
 -- Not here: that only one ending keeps a promise (Unique).  Assumes nothing.

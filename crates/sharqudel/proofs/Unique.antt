@@ -1,13 +1,14 @@
 -- Only one ending keeps the promise of each call: two that start from the same inputs and the same cells end with the
 -- same number, cells and slices written; the contract's other clause fixes the slices that are only read.
--- In order: encode and partner; the pair check; word reading; soft decoding, its outcome first; hard decoding; the
--- question about the transform, and the transform.  Assumes nothing.
+-- In order: encode and partner; the pair check; word reading; the outcome of a decoder; soft decoding; hard decoding;
+-- the question about the transform, and the transform.  Assumes nothing.
 use Prim.Native.Nat.{ℕ}
 use mathlib.Core.Path.{_≡_, sym, _∙_, ap}
 use mathlib.Core.Bool.{Bool}
 use mathlib.Core.List.{List}
 use lib.IntN.{ℤ}
-use Rattle.rules.specs.Outcome.{Outcome, gives, refuses}
+use Rattle.rules.specs.Outcome.{Outcome, gives, refuses, allowed}
+use Rattle.rules.specs.Refusal.{softRefusal, hardRefusal}
 use Rattle.rules.specs.Decoding.{SoftOutcome, HardOutcome}
 use Rattle.rules.proofs.OutcomeLaws.{gives-not-refuses}
 use Rattle.decoder.specs.declared.Heard.the-variants.{Found as Heard·Found}
@@ -37,15 +38,24 @@ module _ {o : Outcome ℕ} {g₀ p₀ : ℕ} where
       (r ≡ s) × (g ≡ k) × (i ≡ j)
   readOut-unique p q = (p .number ∙ sym (q .number), p .message ∙ sym (q .message), p .place ∙ sym (q .place))
 
-module _ (h m : ℕ) (ys : List ℤ) where
-  softOutcome-unique : (o u : Outcome (ℕ × ℤ × Bool)) → SoftOutcome h m ys o → SoftOutcome h m ys u → o ≡ u
-  softOutcome-unique (gives a) (gives b) p q =
-      ap heardTold
-      (hears-unique h m ys (Heard·Found (record { message = record { 0 = a .0 }; correlation = a .1; tied = a .2 }))
-      (Heard·Found (record { message = record { 0 = b .0 }; correlation = b .1; tied = b .2 })) p q)
-  softOutcome-unique (gives a) (refuses k v) p q = absurd (gives-not-refuses (sym (p .taken) ∙ q))
-  softOutcome-unique (refuses k v) (gives a) p q = absurd (gives-not-refuses (sym (q .taken) ∙ p))
-  softOutcome-unique (refuses k v) (refuses j w) p q = let e = sym p ∙ q in cc
+-- a relation that says an outcome's refusal is r's, and of what is given that r refuses nothing and that it is alone
+module _ {A : Type 0} (S : Outcome A → Type 0) (r : Outcome (Unit {0}))
+    (alone : (a b : A) → S (gives a) → S (gives b) → gives a ≡ gives b) (taken : (a : A) → S (gives a) → r ≡ allowed)
+    (told : (k : ℕ) (v : List ℕ) → S (refuses k v) → r ≡ refuses k v) where
+  outcome-unique : (o u : Outcome A) → S o → S u → o ≡ u
+  outcome-unique (gives a) (gives b) p q = alone a b p q
+  outcome-unique (gives a) (refuses k v) p q = absurd (gives-not-refuses (sym (taken a p) ∙ told k v q))
+  outcome-unique (refuses k v) (gives a) p q = absurd (gives-not-refuses (sym (taken a q) ∙ told k v p))
+  outcome-unique (refuses k v) (refuses j w) p q = let e = sym (told k v p) ∙ told j w q in cc
+
+softOutcome-unique : (h m : ℕ) (ys : List ℤ) (o u : Outcome (ℕ × ℤ × Bool)) → SoftOutcome h m ys o →
+    SoftOutcome h m ys u → o ≡ u
+softOutcome-unique h m ys =
+    outcome-unique (SoftOutcome h m ys) (softRefusal h m ys)
+    (λ a b p q. ap heardTold
+    (hears-unique h m ys (Heard·Found (record { message = record { 0 = a .0 }; correlation = a .1; tied = a .2 }))
+    (Heard·Found (record { message = record { 0 = b .0 }; correlation = b .1; tied = b .2 })) p q))
+    (λ a p. p .taken) (λ k v p. p)
 
 pub softOut-unique : {h m : ℕ} {ys : List ℤ} {r s g₀ g k : ℕ} {v₀ v w : ℤ} {t₀ t u : Bool} →
     SoftOut h m ys r g₀ g v₀ v t₀ t → SoftOut h m ys s g₀ k v₀ w t₀ u → (r ≡ s) × (g ≡ k) × (v ≡ w) × (t ≡ u)
@@ -57,15 +67,14 @@ softOut-unique {h} {m} {ys} {g₀ = g₀} {v₀ = v₀} {t₀ = t₀} p q =
       p .tied ∙ givenOr-cong e (λ a. a .2) t₀ ∙ sym (q .tied),
     )
 
-module _ (h m : ℕ) (word : List ℕ) where
-  hardOutcome-unique : (o u : Outcome (ℕ × ℕ × Bool)) → HardOutcome h m word o → HardOutcome h m word u → o ≡ u
-  hardOutcome-unique (gives a) (gives b) p q =
-      ap matchedTold
-      (matches-unique h m word (Matched·Found (record { message = record { 0 = a .0 }; distance = a .1; tied = a .2 }))
-      (Matched·Found (record { message = record { 0 = b .0 }; distance = b .1; tied = b .2 })) p q)
-  hardOutcome-unique (gives a) (refuses k v) p q = absurd (gives-not-refuses (sym (p .taken) ∙ q))
-  hardOutcome-unique (refuses k v) (gives a) p q = absurd (gives-not-refuses (sym (q .taken) ∙ p))
-  hardOutcome-unique (refuses k v) (refuses j w) p q = let e = sym p ∙ q in cc
+hardOutcome-unique : (h m : ℕ) (word : List ℕ) (o u : Outcome (ℕ × ℕ × Bool)) → HardOutcome h m word o →
+    HardOutcome h m word u → o ≡ u
+hardOutcome-unique h m word =
+    outcome-unique (HardOutcome h m word) (hardRefusal h m word)
+    (λ a b p q. ap matchedTold
+    (matches-unique h m word (Matched·Found (record { message = record { 0 = a .0 }; distance = a .1; tied = a .2 }))
+    (Matched·Found (record { message = record { 0 = b .0 }; distance = b .1; tied = b .2 })) p q))
+    (λ a p. p .taken) (λ k v p. p)
 
 pub hardOut-unique : {h m : ℕ} {word : List ℕ} {r s g₀ g k d₀ d d′ : ℕ} {t₀ t u : Bool} {p₀ i j : ℕ} →
     HardOut h m word r g₀ g d₀ d t₀ t p₀ i → HardOut h m word s g₀ k d₀ d′ t₀ u p₀ j →

@@ -39,6 +39,11 @@ fn made<A: Debug, S: Debug>(
     Made { call, name, kind, library, second: format!("{:?} {:?}", second.0, second.1) }
 }
 
+/// A case of a call that writes no slice.
+fn made_reading<A: Debug>(name: &'static str, call: String, library: Result<A, No>, second: Result<A, No>) -> Made {
+    made(name, call, (library, (), true), (second, ()))
+}
+
 fn sending(random: &mut Random, name: &'static str) -> Made {
     let (h, m) = draw::shape(random);
     let (message, before) = (draw::message(random, h, m), draw::output(random, h, m));
@@ -58,14 +63,14 @@ fn pairing(random: &mut Random) -> Made {
     let (first, second) = draw::two_words(random, h, m);
     let answer = sharqudel::check(h, m, &first, &second).map_err(no_of_pair);
     let right = second::pair(h, m, &first, &second);
-    made("pair", format!("pair {h} {m} {first:?} {second:?}"), (answer, (), true), (right, ()))
+    made_reading("pair", format!("pair {h} {m} {first:?} {second:?}"), answer, right)
 }
 
 fn reading(random: &mut Random) -> Made {
     let (h, m) = draw::shape(random);
     let word = draw::word(random, h, m);
     let answer = sharqudel::read(h, m, &word).map(|message| message.0).map_err(no);
-    made("read", format!("read {h} {m} {word:?}"), (answer, (), true), (second::read(h, m, &word), ()))
+    made_reading("read", format!("read {h} {m} {word:?}"), answer, second::read(h, m, &word))
 }
 
 fn hearing(random: &mut Random) -> Made {
@@ -73,7 +78,7 @@ fn hearing(random: &mut Random) -> Made {
     let values = draw::values(random, h, m);
     let answer = sharqudel::soft(h, m, &values).map(|a| (a.message.0, a.correlation as i64, a.tied)).map_err(no);
     let right = second::soft(h, m, &values).map(|a| (a.message, a.value, a.tied));
-    made("soft", format!("soft {h} {m} {values:?}"), (answer, (), true), (right, ()))
+    made_reading("soft", format!("soft {h} {m} {values:?}"), answer, right)
 }
 
 fn matching(random: &mut Random) -> Made {
@@ -81,7 +86,7 @@ fn matching(random: &mut Random) -> Made {
     let word = draw::word(random, h, m);
     let answer = sharqudel::hard(h, m, &word).map(|a| (a.message.0, a.distance as i64, a.tied)).map_err(no);
     let right = second::hard(h, m, &word).map(|a| (a.message, a.value, a.tied));
-    made("hard", format!("hard {h} {m} {word:?}"), (answer, (), true), (right, ()))
+    made_reading("hard", format!("hard {h} {m} {word:?}"), answer, right)
 }
 
 /// The part, and in which area it stands, which shows by where it begins.
@@ -107,7 +112,7 @@ fn asking(random: &mut Random) -> Made {
     let (a, b) = draw::areas(random, m);
     let answer = sharqudel::refusal(m, &a, &b).map_or(Ok(()), |why| Err(no(why)));
     let right = second::transform(m, &a, &b).map(|_| ());
-    made("refusal", format!("refusal {m} {a:?} {b:?}"), (answer, (), true), (right, ()))
+    made_reading("refusal", format!("refusal {m} {a:?} {b:?}"), answer, right)
 }
 
 /// Case `number` of a seed.

@@ -54,10 +54,7 @@ pub fn of_pair(h: u32, m: u32, first: &[u8], second: &[u8]) -> Result<Shape, No>
 
 /// Word reading: 1, 2, 3; the fifth kind is for the reading itself.
 pub fn of_read(h: u32, m: u32, word: &[u8]) -> Result<Shape, No> {
-    let shape = in_range(h, m)?;
-    exactly(word.len(), shape.carriers())?;
-    symbols(shape, word)?;
-    Ok(shape)
+    one_word(in_range(h, m)?, word)
 }
 
 /// Soft decoding: 1, 6, 2. N values for h = 1, 2N for h = 2.
@@ -69,10 +66,7 @@ pub fn of_soft(h: u32, m: u32, values: &[i16]) -> Result<Shape, No> {
 
 /// Hard decoding: 1, 6, 2, 3.
 pub fn of_hard(h: u32, m: u32, word: &[u8]) -> Result<Shape, No> {
-    let shape = decoded(h, m)?;
-    exactly(word.len(), shape.carriers())?;
-    symbols(shape, word)?;
-    Ok(shape)
+    one_word(decoded(h, m)?, word)
 }
 
 /// The transform: 1 on m alone, 2 of either area, 7 in the first N entries of the first. Answers N.
@@ -98,6 +92,13 @@ fn decoded(h: u32, m: u32) -> Result<Shape, No> {
     if h == 3 {
         return Err(No::plain(OCTARY));
     }
+    Ok(shape)
+}
+
+/// One word of a shape: its length, then its symbols.
+fn one_word(shape: Shape, word: &[u8]) -> Result<Shape, No> {
+    exactly(word.len(), shape.carriers())?;
+    symbols(shape, word)?;
     Ok(shape)
 }
 
