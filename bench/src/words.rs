@@ -1,5 +1,5 @@
-//! Shapes and words by document 01's formula; the paths are the second program's (tests/second). Digit x_1 of a place is
-//! the most significant; message numbers hold the path number highest, then c_1 to c_m, and c lowest.
+//! Shapes and words by document 01's formula; the paths are the second program's (tests/second). Digit x_1 of a place
+//! is the most significant; message numbers hold the path number highest, then c_1 to c_m, and c lowest.
 
 #[derive(Clone, Copy, Debug)]
 pub struct Shape {
