@@ -10,7 +10,7 @@ use native.Mathlib.Omega.{arith}
 use mathlib.Core.Path.{_≡_, sym, _∙_, ap, subst}
 use mathlib.Core.Bool.{Bool, true}
 use mathlib.Core.List.{List}
-use lib.Dec.{leb, lit≤}
+use lib.Dec.{lit≤}
 use lib.IntN.{ℤ, pos, _-ℤ_}
 use lib.ListN.{length, getD, List·getD-eq-default}
 use lib.Pow.{pow-mono}
@@ -29,7 +29,7 @@ use Rattle.rules.specs.Refusal.{softRefusal, hardRefusal}
 use Rattle.rules.specs.Decoding.{Loud, Near}
 use Rattle.rules.proofs.Range.{inShape-range, carriers-most}
 use Rattle.rules.proofs.Silence.{labels-two}
-use Rattle.words.proofs.Labels.{labelOf-messageOf, messageOf-lt}
+use Rattle.rules.proofs.Messages.{labelOf-messageOf, messageOf-lt}
 use Rattle.totals.specs.Totals.{totalOf}
 use Rattle.totals.specs.Gains.{raiseBy, softGain, hardGain, tableOf}
 use Rattle.totals.proofs.SoftTotals.{softGain-le}
@@ -44,7 +44,7 @@ use Rattle.engine.proofs.Accepting.{accepts-small, searched-is}
 -- st has the best total of the gains f, and it is no greater than b at every place
 abbrev Leads : ℕ → ℕ → ℕ → (ℕ → ℕ → ℕ) → Standing → Type 0
 Leads h m b f st =
-    Best (labels h m) leb (totalOf h m (tableOf h m f)) (st .label) (st .best) (tiedOf st) × (st .best ≤ carriers m * b)
+    Best (labels h m) _≤_ (totalOf h m (tableOf h m f)) (st .label) (st .best) (tiedOf st) × (st .best ≤ carriers m * b)
 
 module _ (h m b : ℕ) (f : ℕ → ℕ → ℕ) (low : (i s : ℕ) → f i s ≤ b) where
   table-le : (e : ℕ) → getD (tableOf h m f) e 0 ≤ b
@@ -75,7 +75,7 @@ module _ (h m b : ℕ) (f : ℕ → ℕ → ℕ) (low : (i s : ℕ) → f i s �
   search-leads e two top st q =
       let t : List ℕ = tableOf h m f in
       let two-labels : 2 ≤ labels h m = labels-two h m (inShape-range h m e .h-least) in
-      let best = subst (λ (s : Standing). Best (labels h m) leb (totalOf h m t) (s .label) (s .best) (tiedOf s))
+      let best = subst (λ (s : Standing). Best (labels h m) _≤_ (totalOf h m t) (s .label) (s .best) (tiedOf s))
       (sym (q ∙ searched-is h m t (table-accepted e two top))) (lead-best (totalOf h m t) (labels h m) two-labels) in
       (best, omega (arith, best .attained, total-le (st .label)))
 
@@ -101,7 +101,8 @@ module _ (h m : ℕ) (ok : inShape h m ≡ true) (two : h ≤ 2) (st : Standing)
         omega (arith, heard .1, mul-le-mul (carriers-most h m (inShape-range h m ok)) (le-refl (2 * raiseBy)))
 
     pub soft-found : (g : ℕ) (v : ℤ) (t : Bool) → softRefusal h m ys ≡ allowed → g ≡ messageOf h m (st .label) →
-        v ≡ pos (st .best) -ℤ pos (carriers m * raiseBy) → t ≡ tiedOf st → Loud h m ys g v t
+        v ≡ pos (st .best) -ℤ pos (carriers m * raiseBy) → t ≡ tiedOf st →
+        Loud h m ys (record { message = g; correlation = v; tied = t })
     soft-found g v t taken e p q = record {
       taken = taken;
       inside = message-inside g e (heard .0 .inside);
@@ -121,7 +122,8 @@ module _ (h m : ℕ) (ok : inShape h m ≡ true) (two : h ≤ 2) (st : Standing)
     hard-best-le = matched .1
 
     pub hard-found : (g d : ℕ) (t : Bool) → hardRefusal h m w ≡ allowed → g ≡ messageOf h m (st .label) →
-        d ≡ carriers m * halfTurn h - st .best → t ≡ tiedOf st → Near h m w g d t
+        d ≡ carriers m * halfTurn h - st .best → t ≡ tiedOf st →
+        Near h m w (record { message = g; distance = d; tied = t })
     hard-found g d t taken e p q = record {
       taken = taken;
       inside = message-inside g e (matched .0 .inside);

@@ -1,7 +1,7 @@
 -- What holds where nothing is refused, and how long slices and tables are, as code counts them. In order: four phases
 -- at most; soft decoding; hard decoding; lengths as powers; a table of gains fits its area.
 -- Not here: which refusal is given when (Outcomes).  Assumes nothing.
-use Prim.Native.Nat.{ℕ, _+_, _-_, _*_, _^_, _≤_, _<_}
+use Prim.Native.Nat.{ℕ, _+_, _-_, _*_, _^_, _≤_}
 use native.Mathlib.Nat.{mul-comm}
 use native.Mathlib.Omega.{arith}
 use mathlib.Core.Path.{_≡_, sym, _∙_}
@@ -11,15 +11,15 @@ use lib.IntN.{ℤ}
 use lib.ListN.{length}
 use lib.Pow.{pow-add, pow-mono}
 use borrow.Author.Tests.{eqb-true, eqb-false, not-false}
-use Rattle.rules.specs.Shape.{greatestM, inShape, phases, halfTurn, carriers}
-use Rattle.rules.specs.Word.{symbolAt}
+use Rattle.rules.specs.Shape.{greatestM, inShape, halfTurn, carriers}
+use Rattle.rules.specs.Symbols.{Symbols}
 use Rattle.rules.specs.Soft.{softLength}
 use Rattle.rules.specs.Outcome.{allowed, refuse, refuseAt}
 use Rattle.rules.specs.Table.{badShape, badLength, badSymbol, octary}
 use Rattle.rules.specs.Refusal.{softRefusal, hardRefusal}
 use Rattle.rules.proofs.Range.{inShape-range}
 use Rattle.rules.proofs.OutcomeLaws.{refuse-gives, refuseAt-gives}
-use Rattle.shape.proofs.SymbolLaws.{firstBad-none}
+use Rattle.rules.proofs.SymbolLaws.{symbols-of-none}
 use Rattle.signals.proofs.Clean.{softLength-half}
 
 pub few-phases : (h m : ℕ) → inShape h m ≡ true → (h ≡ 3 → ⊥) → h ≤ 2
@@ -51,13 +51,11 @@ soft-taken h m ys e =
     }
 
 pub record HardTaken (h m : ℕ) (w : List ℕ) : Type 0 where
-  pub shape : inShape h m ≡ true
   pub few : h ≤ 2
-  pub long : length w ≡ carriers m
-  pub inside : (i : ℕ) → i < carriers m → symbolAt w i < phases h
+  pub symbols : Symbols h m w
 
 pub hard-taken : (h m : ℕ) (w : List ℕ) → hardRefusal h m w ≡ allowed → HardTaken h m w
-unfolding hardRefusal badSymbol
+unfolding hardRefusal
 hard-taken h m w e =
     let l = badLength (length w) (carriers m) in
     let o = refuseAt 3 (badSymbol h w) [] allowed in
@@ -68,10 +66,8 @@ hard-taken h m w e =
     let n : length w ≡ carriers m = eqb-true (length w) (carriers m) (not-false _ (c .0)) in
     let s : inShape h m ≡ true = not-false _ (a .0) in
     record {
-      shape = s;
       few = few-phases h m s (eqb-false h 3 (b .0));
-      long = n;
-      inside = λ i b. firstBad-none (phases h) w (sym (d .0)) i (omega (arith, n));
+      symbols = symbols-of-none h m w s n (sym (d .0));
     }
 
 -- 2^(h-1) N as one power; 2^h N is engine's table-size

@@ -1,26 +1,34 @@
 -- What the answers of soft and hard decoding say, in the terms of document 01, and their promises over it.
--- Defines:  heardTold r      an answer of soft decoding, as an outcome: message number, correlation, tied
---           matchedTold r    an answer of hard decoding: message number, distance, tied
+-- Defines:  loudestTold a, closestTold a    what is found, with its message number as a number
+--           heardTold r      an answer of soft decoding, as an outcome
+--           matchedTold r    an answer of hard decoding
 --           Hears h m ys r, Matches h m w r    the promises: rules' SoftOutcome and HardOutcome of what is told
 -- Laws: proofs/Outcomes.antt (only one answer satisfies each).  Assumes nothing: these are definitions.
 use Prim.Native.Nat.{ℕ}
-use mathlib.Core.Bool.{Bool}
 use mathlib.Core.List.{List}
 use lib.IntN.{ℤ}
 use Rattle.rules.specs.Outcome.{Outcome, gives}
-use Rattle.rules.specs.Decoding.{SoftOutcome, HardOutcome}
+use Rattle.rules.specs.Decoding.{SoftAnswer, HardAnswer, SoftOutcome, HardOutcome}
 use Rattle.kinds.specs.Told.{refusalTold}
+use Rattle.decoder.specs.declared.Loudest.{Loudest}
+use Rattle.decoder.specs.declared.Closest.{Closest}
 use Rattle.decoder.specs.declared.Heard.{Heard}
 use Rattle.decoder.specs.declared.Heard.the-variants.{Found as Heard·Found, Refused as Heard·Refused}
 use Rattle.decoder.specs.declared.Matched.{Matched}
 use Rattle.decoder.specs.declared.Matched.the-variants.{Found as Matched·Found, Refused as Matched·Refused}
 
-abbrev pub heardTold : Heard → Outcome (ℕ × ℤ × Bool)
-heardTold (Heard·Found a) = gives (a .message .0, a .correlation, a .tied)
+abbrev pub loudestTold : Loudest → SoftAnswer
+loudestTold a = record { message = a .message .0; correlation = a .correlation; tied = a .tied }
+
+abbrev pub closestTold : Closest → HardAnswer
+closestTold a = record { message = a .message .0; distance = a .distance; tied = a .tied }
+
+abbrev pub heardTold : Heard → Outcome SoftAnswer
+heardTold (Heard·Found a) = gives (loudestTold a)
 heardTold (Heard·Refused r) = refusalTold r
 
-abbrev pub matchedTold : Matched → Outcome (ℕ × ℕ × Bool)
-matchedTold (Matched·Found a) = gives (a .message .0, a .distance, a .tied)
+abbrev pub matchedTold : Matched → Outcome HardAnswer
+matchedTold (Matched·Found a) = gives (closestTold a)
 matchedTold (Matched·Refused r) = refusalTold r
 
 abbrev pub Hears : ℕ → ℕ → List ℤ → Heard → Type 0

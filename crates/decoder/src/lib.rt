@@ -21,7 +21,7 @@ ghost use Rattle.rules.specs.Refusal.{softRefusal, hardRefusal};
 ghost use Rattle.rules.specs.Decoding.{Loud, Near};
 ghost use Rattle.totals.specs.Gains.{raiseBy, raised, softGain, hardGain, nearness, tableOf};
 ghost use Rattle.standing.specs.Lead.{tiedOf};
-ghost use Rattle.decoder.specs.Told.{Hears, Matches};
+ghost use Rattle.decoder.specs.Told.{loudestTold, closestTold, Hears, Matches};
 
 // The greatest table of gains: a run of places for each of four symbols.
 const GAINS: usize = PLACES * 4;
@@ -60,7 +60,6 @@ pub enum Matched {
 // read.
 pub fn soft(h: u32, m: u32, values: &[i16]) -> Heard
     ensures { λ r. ⌜ Hears h m (now (values .entry)) r ⌝ }
-    ensures { λ _. ⌜ now (values .exit) ≡ now (values .entry) ⌝ }
 {
     if !shape::in_shape(h, m) {
         return Heard::Refused(Refusal::Shape);
@@ -81,7 +80,6 @@ pub fn soft(h: u32, m: u32, values: &[i16]) -> Heard
 // The word is only read.
 pub fn hard(h: u32, m: u32, word: &[u8]) -> Matched
     ensures { λ r. ⌜ Matches h m (now (word .entry)) r ⌝ }
-    ensures { λ _. ⌜ now (word .exit) ≡ now (word .entry) ⌝ }
 {
     if !shape::in_shape(h, m) {
         return Matched::Refused(Refusal::Shape);
@@ -104,7 +102,7 @@ pub fn hard(h: u32, m: u32, word: &[u8]) -> Matched
 fn hear(h: u32, m: u32, values: &[i16], gains: &mut [u32]) -> Loudest
     requires { ⌜ softRefusal h m (now values) ≡ allowed ⌝ }
     requires { ⌜ length (now gains) ≡ phases h * carriers m ⌝ }
-    ensures { λ r. ⌜ Loud h m (now (values .entry)) (r .message .0) (r .correlation) (r .tied) ⌝ }
+    ensures { λ r. ⌜ Loud h m (now (values .entry)) (loudestTold r) ⌝ }
 {
     raise(h, m, values, gains);
     as_correlation(h, m, engine::search(h, m, gains))
@@ -114,7 +112,7 @@ fn hear(h: u32, m: u32, values: &[i16], gains: &mut [u32]) -> Loudest
 fn weigh(h: u32, m: u32, word: &[u8], gains: &mut [u32]) -> Closest
     requires { ⌜ hardRefusal h m (now word) ≡ allowed ⌝ }
     requires { ⌜ length (now gains) ≡ phases h * carriers m ⌝ }
-    ensures { λ r. ⌜ Near h m (now (word .entry)) (r .message .0) (r .distance) (r .tied) ⌝ }
+    ensures { λ r. ⌜ Near h m (now (word .entry)) (closestTold r) ⌝ }
 {
     compare(h, m, word, gains);
     as_distance(h, m, engine::search(h, m, gains))

@@ -17,7 +17,7 @@ use Rattle.rules.specs.Label.{labels, labelPath, coefficient, constant}
 use Rattle.rules.specs.Word.{wordAt}
 use Rattle.rules.specs.Distance.{hamming, leeOf, lee, distance}
 use Rattle.rules.proofs.Range.{phases-half, inM-least}
-use Rattle.rules.proofs.Symbols.{wordAt-lt}
+use Rattle.rules.proofs.SymbolLaws.{wordAt-lt}
 use Rattle.places.proofs.Twins.{carriers-blocks}
 use Rattle.paths.proofs.Links.{path-of-links}
 use Rattle.paths.proofs.Increasing.{pathAt-inj}

@@ -13,9 +13,9 @@ use lib.Pow.{pow-pos}
 use Rattle.rules.specs.Shape.{phases, carriers, messages, inM}
 use Rattle.rules.specs.Label.{labels, labelOf}
 use Rattle.rules.specs.Word.{wordAt, wordOf}
-use Rattle.rules.proofs.Symbols.{wordAt-lt}
+use Rattle.rules.proofs.SymbolLaws.{wordAt-lt}
 use Rattle.signals.proofs.Weights.{differs, differs-weight, hamming-weigh, weigh-zero-of-agree}
-use Rattle.words.proofs.Labels.{labelOf-inj, labelOf-lt}
+use Rattle.rules.proofs.Messages.{labelOf-inj, labelOf-lt}
 use Rattle.words.proofs.Forms.{wordOf-at}
 use Rattle.distances.proofs.Apart.{hamming-apart}
 

@@ -18,7 +18,7 @@ use Rattle.rules.specs.Shape.{phases, carriers, pathsInUse}
 use Rattle.rules.specs.Label.{labels}
 use Rattle.rules.specs.Word.{wordAt}
 use Rattle.rules.proofs.Range.{InRange, inShape-range, phases-least}
-use Rattle.rules.proofs.Symbols.{wordAt-lt}
+use Rattle.rules.proofs.SymbolLaws.{wordAt-lt}
 use Rattle.totals.specs.Totals.{totalOf}
 use Rattle.totals.specs.Climb.{turnedAt, turned, climbs, byLabel}
 use Rattle.totals.proofs.Runs.{length-turned, turned-at}

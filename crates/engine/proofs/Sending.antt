@@ -10,7 +10,7 @@ use Rattle.range.specs.Below.{listBelow}
 use Rattle.rules.specs.Shape.{inShape, carriers, messages}
 use Rattle.rules.specs.Label.{labels, labelOf, messageOf}
 use Rattle.rules.specs.Word.{wordAt, wordOf}
-use Rattle.words.proofs.Labels.{labelOf-messageOf, messageOf-lt}
+use Rattle.rules.proofs.Messages.{labelOf-messageOf, messageOf-lt}
 use Rattle.encoder.specs.declared.Written.{Written}
 use Rattle.encoder.specs.Sent.{Sent}
 use Rattle.encoder.proofs.SentLaws.{send-allowed, sent-word}

@@ -38,7 +38,6 @@ const MOST_GAIN: u32 = 1 << 25;
 // a gain is above the greatest.
 pub fn search(h: u32, m: u32, gains: &[u32]) -> Standing
     ensures { λ r. ⌜ r ≡ searched h m (now (gains .entry)) ⌝ }
-    ensures { λ _. ⌜ now (gains .exit) ≡ now (gains .entry) ⌝ }
 {
     if !takes(h, m, gains) {
         return Standing {

@@ -18,17 +18,17 @@ use Rattle.range.proofs.Tests.{eqb-of-iff}
 use Rattle.range.proofs.SumsSigned.{sumℤ-cong}
 use Rattle.range.proofs.Shifts.{sumℤ-difference}
 use Rattle.rules.specs.Shape.{phases, halfTurn}
-use Rattle.rules.specs.Autocorrelation.{turned, phasePower}
+use Rattle.rules.specs.Autocorrelation.{timesPhase, phasePower}
 use Rattle.rules.proofs.Range.{phases-half}
 
 -- turning k times carries coordinate t to t + k
 phasePower-on : (h e t k : ℕ) → phasePower h (e + k) (t + k) ≡ phasePower h e t
-unfolding phasePower turned
+unfolding phasePower timesPhase
 phasePower-on h e t zero = rw (add-zero e, add-zero t)
 phasePower-on h e t (suc k) = rw (add-suc e k, add-suc t k) (phasePower-on h e t k)
 
 phasePower-back : (h e : ℕ) → phasePower h (suc e) 0 ≡ negℤ (phasePower h e (halfTurn h - 1))
-unfolding phasePower turned
+unfolding phasePower timesPhase
 phasePower-back h e = refl
 
 -- half a turn more is the negation: x^(2^(h-1)) is -1
@@ -53,7 +53,7 @@ phasePower-zero h (suc t) = rw (eqb·suc-zero t)
 
 -- below half a turn x^e has a 1 at coordinate e
 phasePower-below : (h e t : ℕ) → e < halfTurn h → t < halfTurn h → phasePower h e t ≡ pos (oneIf (eqb e t))
-unfolding phasePower turned
+unfolding phasePower timesPhase
 phasePower-below h zero zero p q = refl
 phasePower-below h zero (suc t) p q = rw (eqb·zero-suc t)
 phasePower-below h (suc e) zero p q =

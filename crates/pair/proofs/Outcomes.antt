@@ -17,7 +17,7 @@ use Rattle.rules.specs.Table.{badShape, badLength, badSymbol, firstBad}
 use Rattle.rules.specs.Refusal.{pairOutcome}
 use Rattle.rules.proofs.Range.{inShape-range}
 use Rattle.rules.proofs.OutcomeLaws.{gives-inj, refuse-gives, refuseAt-gives}
-use Rattle.shape.proofs.SymbolLaws.{firstBad-none}
+use Rattle.rules.proofs.SymbolLaws.{firstBad-none}
 use Rattle.pair.specs.Words.{SymbolsBelow, Words}
 
 module _ (h m : ℕ) (a b : List ℕ) where

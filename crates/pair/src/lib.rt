@@ -32,7 +32,6 @@ pub enum Paired {
 // of the first word, else of the second, and which word. Both words are only read.
 pub fn check(h: u32, m: u32, first: &[u8], second: &[u8]) -> Paired
     ensures { λ r. ⌜ pairedTold r ≡ pairOutcome h m (now (first .entry)) (now (second .entry)) ⌝ }
-    ensures { λ _. ⌜ (now (first .exit) ≡ now (first .entry)) × (now (second .exit) ≡ now (second .entry)) ⌝ }
 {
     if !shape::in_shape(h, m) {
         return Paired::Refused(Refusal::Shape, Which::Either);

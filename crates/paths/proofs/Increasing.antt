@@ -1,7 +1,7 @@
 -- THE LAW of order: the paths of m stand in dictionary order, hence each once.
 -- In order: lists that begin with one number, and with one number after the other; 1, .., m; the orders of
--- an increasing list; the paths; the dictionary order is strict; a path has one number.
--- Not here: which lists are paths (Members).  Assumes nothing.
+-- an increasing list; the paths; a path has one number.
+-- Not here: which lists are paths (Members); that dictionary order has a direction (rules, OrderLaws).  Assumes nothing.
 use Prim.Native.Nat.{ℕ, zero, suc, _<_, suc-le-suc}
 use native.Mathlib.Decide.{decLt}
 use native.Mathlib.Omega.{arith}
@@ -11,6 +11,7 @@ use mathlib.Core.List.{List, [], _∷_, map, flatMap, List·Memᴰ, List·Memᴰ
 use lib.Dec.{eqb, ltb}
 use lib.ListN.{length}
 use Rattle.rules.specs.Path.{Before, here, later, without, orders, headOf, lastOf, upTo, paths, pathAt}
+use Rattle.rules.proofs.OrderLaws.{before-distinct}
 use Rattle.paths.proofs.Listed.{flatMap-mem}
 use Rattle.paths.proofs.Sorted.{Sorted, none, first, sorted-at, sorted-keep, sorted-append, sorted-listBelow}
 
@@ -58,10 +59,6 @@ paths-sorted m =
 pub paths-increasing : (m i j : ℕ) → i < j → j < length (paths m) → Before (pathAt m i) (pathAt m j)
 unfolding pathAt
 paths-increasing m i j l h = sorted-at Before (paths m) [] i j (paths-sorted m) l h
-
-pub before-distinct : {p q : List ℕ} → Before p q → p ≡ q → ⊥
-before-distinct (here {x = x} {y = y} l) e = let s : x ≡ y = cc in omega arith
-before-distinct (later {xs = xs} {ys = ys} b) e = before-distinct b (cc)
 
 pub pathAt-inj : (m i j : ℕ) → i < length (paths m) → j < length (paths m) → pathAt m i ≡ pathAt m j → i ≡ j
 pathAt-inj m i j a b e = at (decLt i j) (decLt j i)

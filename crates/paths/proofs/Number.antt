@@ -18,11 +18,12 @@ use Rattle.range.proofs.Tests.{allBelow-at}
 use Rattle.rules.specs.Shape.{greatestM, inM, pathsInUse, pathBits}
 use Rattle.rules.proofs.Range.{inM-least, inM-le}
 use Rattle.rules.specs.Path.{headOf, lastOf, keep, without, orders, upTo, paths, Before}
+use Rattle.rules.proofs.OrderLaws.{before-distinct}
 use Rattle.paths.proofs.Times.{Distinct, distinct-once, distinct-without, length-without}
 use Rattle.paths.proofs.Orders.{IsOrder, orders-isOrder, isOrder-orders}
 use Rattle.paths.proofs.UpTo.{length-upTo, upTo-distinct}
 use Rattle.paths.proofs.Sorted.{sorted-imp}
-use Rattle.paths.proofs.Increasing.{upTo-sorted, orders-sorted, before-distinct}
+use Rattle.paths.proofs.Increasing.{upTo-sorted, orders-sorted}
 use Rattle.paths.proofs.Counts.{Single, length-flatMap, length-keep-not, length-keep-le}
 use Rattle.paths.proofs.Reversed.{isOrder-reverse, headOf-reverse, lastOf-reverse, reverse-inj, ends-differ}
 

@@ -22,21 +22,24 @@ use Rattle.range.proofs.Tests.{false-of-not-true, allBelow-of, allBelow-at, fir
 use Rattle.range.proofs.Tests.{firstBelow-at, firstBelow-nowhere}
 use Rattle.rules.specs.Shape.{phases, carriers, pathsInUse, messages}
 use Rattle.rules.specs.Label.{labels, labelPath, coefficient, constant, labelOf, messageOf}
+use Rattle.rules.specs.Symbols.{Symbols}
 use Rattle.rules.specs.Word.{wordAt, wordOf}
 use Rattle.rules.specs.Pair.{minus}
+use Rattle.rules.specs.Symbols.{Symbols}
 use Rattle.rules.specs.Word.{symbolAt}
 use Rattle.rules.specs.Table.{messageWith}
 use Rattle.rules.proofs.Range.{InRange, inShape-range, range-inM, coefficientBits-le, mostCoefficientBits}
 use Rattle.rules.proofs.Differences.{minus-lt}
 use Rattle.places.proofs.Digits.{one-lt}
-use Rattle.words.proofs.Labels.{phases-pow, numberOf, numberOf-lt, numberOf-back, labelPath-lt, labelOf-lt}
-use Rattle.words.proofs.Labels.{messageOf-labelOf}
+use Rattle.words.proofs.Labels.{phases-pow, numberOf, numberOf-lt, numberOf-back, labelPath-lt}
+use Rattle.rules.proofs.Messages.{labelOf-lt}
+use Rattle.rules.proofs.Messages.{messageOf-labelOf}
 use Rattle.words.proofs.Horner.{numberOf-split, numberOf-cong}
 use Rattle.words.proofs.Forms.{length-wordOf, wordOf-at}
 use Rattle.words.proofs.Readings.{wordAt-zero, coefficient-read}
 use Rattle.words.proofs.Used.{labelPath-good}
 use Rattle.distances.proofs.Inject.{wordOf-inj}
-use Rattle.reader.specs.Shown.{Word, shown, shownUpTo, lowOf, labelWith}
+use Rattle.reader.specs.Shown.{shown, shownUpTo, lowOf, labelWith}
 
 pub shown-lt : (h m : ℕ) (w : List ℕ) (k : ℕ) → shown h m w k < phases h
 unfolding shown
@@ -79,12 +82,12 @@ pub labelWith-next : (h m : ℕ) (w : List ℕ) (n : ℕ) → labelWith h m w n 
 unfolding labelWith
 labelWith-next h m w n = rw (add-mul n 1 (phases h ^ (m + 1)), one-mul (phases h ^ (m + 1))) (omega arith)
 
-module _ (h m : ℕ) (w : List ℕ) (word : Word h m w) where
+module _ (h m : ℕ) (w : List ℕ) (word : Symbols h m w) where
   range : InRange h m
   range = inShape-range h m (word .shape)
 
   pub first-lt : symbolAt w 0 < phases h
-  first-lt = word .symbols 0 (subst (λ (n : ℕ). 0 < n) (sym (word .long)) (pow-pos m))
+  first-lt = word .below 0 (pow-pos m)
 
   pub labelWith-lt : (n : ℕ) → n < pathsInUse m → labelWith h m w n < labels h m
   labelWith-lt n l =

@@ -1,24 +1,15 @@
 -- What the symbols show of a label, if they are its word: c stands at place 0, and c_k is what place 2^(m-k) adds to
 -- it.
--- Defines:  Word h m w          the symbols w are N symbols in range, of a shape in range
---           shown h m w k       the coefficient c_k that w shows
+-- Defines:  shown h m w k       the coefficient c_k that w shows
 --           shownUpTo h m w k   c_1, .., c_k as one number in base 2^h
 --           lowOf h m w         c_1, .., c_m, c as one number: the label number with path number 0
 --           labelWith h m w n   the label number with path number n
 -- Laws: proofs/ShownLaws.antt.  Assumes nothing: these are definitions.
-use Prim.Native.Nat.{ℕ, zero, suc, _+_, _-_, _*_, _^_, _<_}
-use mathlib.Core.Path.{_≡_}
-use mathlib.Core.Bool.{true}
+use Prim.Native.Nat.{ℕ, zero, suc, _+_, _-_, _*_, _^_}
 use mathlib.Core.List.{List}
-use lib.ListN.{length}
-use Rattle.rules.specs.Shape.{inShape, phases, carriers}
+use Rattle.rules.specs.Shape.{phases}
 use Rattle.rules.specs.Pair.{minus}
 use Rattle.rules.specs.Word.{symbolAt}
-
-pub record Word (h m : ℕ) (w : List ℕ) : Type 0 where
-  pub shape : inShape h m ≡ true
-  pub long : length w ≡ carriers m
-  pub symbols : (i : ℕ) → i < length w → symbolAt w i < phases h
 
 unfoldable pub shown : ℕ → ℕ → List ℕ → ℕ → ℕ
 shown h m w k = minus (phases h) (symbolAt w (2 ^ (m - k))) (symbolAt w 0)

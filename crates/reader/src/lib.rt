@@ -11,9 +11,10 @@ ghost use lib.ListN.{length};
 ghost use Rattle.rules.specs.Shape.{messages};
 ghost use Rattle.rules.specs.Word.{wordOf};
 ghost use Rattle.rules.specs.Table.{messageWith};
+ghost use Rattle.rules.specs.Symbols.{Symbols};
 ghost use Rattle.rules.specs.Refusal.{readOutcome, orNoWord};
 ghost use Rattle.reader.specs.Told.{readingTold};
-ghost use Rattle.reader.specs.Shown.{Word, lowOf};
+ghost use Rattle.reader.specs.Shown.{lowOf};
 
 // The answer of word reading.
 pub enum Reading {
@@ -25,7 +26,6 @@ pub enum Reading {
 // symbol that is 2^h or more, with the first such place, 5 symbols that are no message's word. The word is only read.
 pub fn read(h: u32, m: u32, word: &[u8]) -> Reading
     ensures { λ r. ⌜ readingTold r ≡ readOutcome h m (now (word .entry)) ⌝ }
-    ensures { λ _. ⌜ now (word .exit) ≡ now (word .entry) ⌝ }
 {
     if !shape::in_shape(h, m) {
         return Reading::Refused(Refusal::Shape);
@@ -41,7 +41,7 @@ pub fn read(h: u32, m: u32, word: &[u8]) -> Reading
 
 // Tries the label that the symbols show with each path in use.
 fn search(h: u32, m: u32, word: &[u8]) -> Reading
-    requires { ⌜ Word h m (now word) ⌝ }
+    requires { ⌜ Symbols h m (now word) ⌝ }
     ensures { λ r. ⌜ readingTold r ≡ orNoWord (messageWith h m (now (word .entry))) ⌝ }
 {
     let step = shape::power(h * (m + 1));
@@ -61,7 +61,7 @@ fn search(h: u32, m: u32, word: &[u8]) -> Reading
 
 // Whether the symbols are the message's word.
 fn is_word(h: u32, m: u32, message: MessageNumber, word: &[u8]) -> bool
-    requires { ⌜ Word h m (now word) ⌝ }
+    requires { ⌜ Symbols h m (now word) ⌝ }
     requires { ⌜ message .0 < messages h m ⌝ }
     ensures { λ r. ⌜ (r ≡ true → wordOf h m (message .0) ≡ now (word .entry))
         × (wordOf h m (message .0) ≡ now (word .entry) → r ≡ true) ⌝ }
@@ -73,7 +73,7 @@ fn is_word(h: u32, m: u32, message: MessageNumber, word: &[u8]) -> bool
 
 // The same, with a buffer as long as the word to write the message's word to.
 fn compare(h: u32, m: u32, message: MessageNumber, buffer: &mut [u8], word: &[u8]) -> bool
-    requires { ⌜ Word h m (now word) ⌝ }
+    requires { ⌜ Symbols h m (now word) ⌝ }
     requires { ⌜ message .0 < messages h m ⌝ }
     requires { ⌜ length (now buffer) ≡ length (now word) ⌝ }
     ensures { λ r. ⌜ (r ≡ true → wordOf h m (message .0) ≡ now (word .entry))
@@ -85,7 +85,7 @@ fn compare(h: u32, m: u32, message: MessageNumber, buffer: &mut [u8], word: &[u8
 
 // The label number that the symbols show, with path number 0.
 fn low(h: u32, m: u32, word: &[u8]) -> u64
-    requires { ⌜ Word h m (now word) ⌝ }
+    requires { ⌜ Symbols h m (now word) ⌝ }
     ensures { λ r. ⌜ r ≡ lowOf h m (now (word .entry)) ⌝ }
 {
     let q = shape::power(h);

@@ -5,14 +5,15 @@ use native.Mathlib.Omega.{arith}
 use mathlib.Core.Path.{_≡_, refl}
 use mathlib.Core.Bool.{true, false, and-false}
 use mathlib.Core.List.{[], _∷_, flatMap}
-use lib.Dec.{lit<, leb}
+use lib.Dec.{lit<, leb, leb→le}
 use lib.IntN.{pos}
 use lib.ListN.{length, replicate, length-replicate}
+use lib.Pow.{pow-pos}
 use lib.Signed.{leZ}
 use borrow.Author.Tests.{eqb-false, eq-eqb, ne-eqb}
 use Rattle.range.specs.Below.{sumBelow, countBelow, allBelow, firstBelow, listBelow}
 use Rattle.range.specs.Signed.{sumℤ}
-use Rattle.rules.specs.Shape.{pathBits, inH, inM, inShape}
+use Rattle.rules.specs.Shape.{pathBits, inH, inM, inShape, messageBits}
 use Rattle.rules.specs.Place.{digit}
 use Rattle.rules.specs.Path.{keep, without, orders, upTo, paths, pathAt}
 use Rattle.rules.specs.Label.{labels, labelPath, coefficient, constant, labelParts, labelOf}
@@ -20,6 +21,7 @@ use Rattle.rules.specs.Word.{links, formAt, wordAt, partnerAt, wordOf, p
 use Rattle.rules.specs.Pair.{minus, phaseCount, pairCount, golayPair}
 use Rattle.rules.specs.Distance.{hamming, distance}
 use Rattle.rules.specs.Soft.{heard, correlation, softLength}
+use Rattle.rules.specs.Best.{AtMost, AtLeast}
 use Rattle.rules.specs.Outcome.{allowed}
 use Rattle.rules.specs.Table.{badShape, badSymbol, messageWith}
 use Rattle.rules.specs.Refusal.{sendRefusal, pairOutcome, readOutcome, softRefusal, hardRefusal, transformRefusal}
@@ -38,26 +40,30 @@ outside-m : (m : ℕ) → inM m ≡ false → Right (outsideM m)
 unfolding transformRefusal
 outside-m m e = (λ h. refused-one h m (rw (e, and-false (inH h))), λ y n. rw e)
 
-soft-right : Right (soft 1 2 fourLeast 1 (pos 65536) (3 ∷ 5 ∷ 6 ∷ []))
+soft-right : Right (soft 1 2 fourLeast (record { message = 1; correlation = pos 65536; tied = true }) (3 ∷ 5 ∷ 6 ∷ []))
 unfolding
     softRefusal allBelow correlation sumℤ heard wordAt formAt links digit pathAt paths keep without orders upTo
     listBelow flatMap labelPath coefficient constant labelOf pathBits sumBelow reaching
 soft-right = (
-  refl,
-  best-of-tests (labels 1 2) leZ (correlation 1 2 fourLeast) 1 3
-      (lit< tt) (lit< tt) (eqb-false 3 1 refl) refl tt refl refl,
+  record {
+    taken = refl;
+    inside = lit< tt;
+    greatest = best-of-tests (labels 1 2) AtMost (correlation 1 2 fourLeast) leZ (λ u v t. t) 1 3
+        (lit< tt) (lit< tt) (eqb-false 3 1 refl) refl tt refl refl;
+  },
   refl,
 )
 
-hard-right : Right (hard 1 2 (1 ∷ 1 ∷ 1 ∷ 1 ∷ []) 1 1)
+hard-right : Right (hard 1 2 (1 ∷ 1 ∷ 1 ∷ 1 ∷ []) (record { message = 1; distance = 1; tied = true }))
 unfolding
     hardRefusal badSymbol firstBelow allBelow countBelow hamming distance wordAt formAt links digit pathAt paths keep
     without orders upTo listBelow flatMap labelPath coefficient constant labelOf pathBits sumBelow
-hard-right = (
-  refl,
-  best-of-tests (labels 1 2) (λ a b. leb b a) (λ k. distance 1 4 (symbolAt (1 ∷ 1 ∷ 1 ∷ 1 ∷ [])) (wordAt 1 2 k)) 1 3
-      (lit< tt) (lit< tt) (eqb-false 3 1 refl) refl tt refl refl,
-)
+hard-right = record {
+  taken = refl;
+  inside = lit< tt;
+  nearest = best-of-tests (labels 1 2) AtLeast (λ k. distance 1 4 (symbolAt (1 ∷ 1 ∷ 1 ∷ 1 ∷ [])) (wordAt 1 2 k))
+      (λ d e. leb e d) (λ d e t. leb→le e d t) 1 3 (lit< tt) (lit< tt) (eqb-false 3 1 refl) refl tt refl refl;
+}
 
 -- zeros of the right length are not refused
 zeros-allowed : (h m : ℕ) → inShape h m ≡ true → h ≤ 2 → softRefusal h m (replicate (softLength h m) (pos 0)) ≡ allowed
@@ -70,7 +76,11 @@ zeros-allowed h m e two =
     )
 
 silence-right : Right silence
-silence-right h m e two = (zeros-allowed h m e two, greatest-of-zeros h m (inShape-range h m e .h-least))
+silence-right h m e two = record {
+  taken = zeros-allowed h m e two;
+  inside = pow-pos (messageBits h m);
+  greatest = greatest-of-zeros h m (inShape-range h m e .h-least);
+}
 
 infixr 5 _&_
 _&_ : {A B : Type 0} → A → B → A × B

@@ -1,22 +1,27 @@
--- Small sums done by hand, of the rules that no starred case reaches: the spectrum and its stages, what a four-phase
--- symbol hears, Lee distance, the unstarred hard word of 01, the powers of a phase, autocorrelations, envelope powers,
--- and clean soft values. What a transform leaves and refuses: AreaSamples.  Assumes nothing.
+-- Small sums done by hand, of the rules that no starred case reaches: dictionary order, the spectrum and its stages, what
+-- a four-phase symbol hears, Lee distance, the unstarred hard word of 01, the powers of a phase, autocorrelations,
+-- envelope powers, and clean soft values. What a transform leaves and refuses: AreaSamples.  Assumes nothing.
 use Prim.Native.Nat.{ℕ, suc}
 use mathlib.Core.Path.{_≡_, refl}
 use mathlib.Core.List.{[], _∷_, flatMap}
+use lib.Dec.{lit<}
 use lib.IntN.{ℤ, pos, negsuc}
 use Rattle.range.specs.Below.{sumBelow, countBelow, listBelow}
 use Rattle.range.specs.Signed.{sumℤ}
 use Rattle.rules.specs.Place.{digit}
-use Rattle.rules.specs.Path.{paths, orders, upTo, without, keep, pathAt}
+use Rattle.rules.specs.Path.{Before, here, later, paths, orders, upTo, without, keep, pathAt}
 use Rattle.rules.specs.Label.{labelPath, coefficient, constant}
 use Rattle.rules.specs.Word.{links, formAt, wordAt, symbolAt}
 use Rattle.rules.specs.Pair.{minus}
-use Rattle.rules.specs.Autocorrelation.{turned, phasePower, autocorrelation}
+use Rattle.rules.specs.Autocorrelation.{timesPhase, phasePower, autocorrelation}
 use Rattle.rules.specs.Envelope.{phaseAt, envelopePower}
 use Rattle.rules.specs.Soft.{heard, cleanAt, clean}
 use Rattle.rules.specs.Distance.{hamming, leeOf, lee, distance}
 use Rattle.rules.specs.Spectrum.{shared, spectrumAt, stage, stages}
+
+-- 123 comes before 132, and that before 213
+first-paths : Before (1 ∷ 2 ∷ 3 ∷ []) (1 ∷ 3 ∷ 2 ∷ []) × Before (1 ∷ 3 ∷ 2 ∷ []) (2 ∷ 1 ∷ 3 ∷ [])
+first-paths = (later (here (lit< tt)), here (lit< tt))
 
 -- 1, 2, 3, 4
 abbrev pub count : ℕ → ℤ
@@ -59,53 +64,53 @@ hard-sixteen = refl
 -- four phases: 1 and j are the coordinates, and the powers of j are 1, j, -1, -j
 four-powers : listBelow 4 (λ e. listBelow 2 (phasePower 2 e)) ≡
     (pos 1 ∷ pos 0 ∷ []) ∷ (pos 0 ∷ pos 1 ∷ []) ∷ (negsuc 0 ∷ pos 0 ∷ []) ∷ (pos 0 ∷ negsuc 0 ∷ []) ∷ []
-unfolding listBelow phasePower turned
+unfolding listBelow phasePower timesPhase
 four-powers = refl
 
 -- the starred pair 0002, 0020 of 01: at shifts 0, 1, 2, 3 they have 4, 1, 0, -1 and 4, -1, 0, 1, each with no j, which
 -- cancel from shift 1 on
 word-shifts : listBelow 4 (λ u. listBelow 2 (autocorrelation 2 4 (symbolAt (0 ∷ 0 ∷ 0 ∷ 2 ∷ [])) u)) ≡
     (pos 4 ∷ pos 0 ∷ []) ∷ (pos 1 ∷ pos 0 ∷ []) ∷ (pos 0 ∷ pos 0 ∷ []) ∷ (negsuc 0 ∷ pos 0 ∷ []) ∷ []
-unfolding listBelow autocorrelation sumℤ minus phasePower turned
+unfolding listBelow autocorrelation sumℤ minus phasePower timesPhase
 word-shifts = refl
 
 partner-shifts : listBelow 4 (λ u. listBelow 2 (autocorrelation 2 4 (symbolAt (0 ∷ 0 ∷ 2 ∷ 0 ∷ [])) u)) ≡
     (pos 4 ∷ pos 0 ∷ []) ∷ (negsuc 0 ∷ pos 0 ∷ []) ∷ (pos 0 ∷ pos 0 ∷ []) ∷ (pos 1 ∷ pos 0 ∷ []) ∷ []
-unfolding listBelow autocorrelation sumℤ minus phasePower turned
+unfolding listBelow autocorrelation sumℤ minus phasePower timesPhase
 partner-shifts = refl
 
 -- the later symbol is taken from the earlier one: 0 - 1 is three quarters of a turn, -j
 later-taken-away : listBelow 2 (autocorrelation 2 2 (symbolAt (0 ∷ 1 ∷ [])) 1) ≡ pos 0 ∷ negsuc 0 ∷ []
-unfolding listBelow autocorrelation sumℤ minus phasePower turned
+unfolding listBelow autocorrelation sumℤ minus phasePower timesPhase
 later-taken-away = refl
 
 -- the same pair at moments 0 and 1/4: 1 + 1 + 1 - 1 and 1 + j - 1 + j, 1 + 1 - 1 + 1 and 1 + j + 1 - j. All have power
 -- 4, and 4 + 4 is 2 N
 word-powers : listBelow 2 (λ s. listBelow 2 (envelopePower 2 4 (symbolAt (0 ∷ 0 ∷ 0 ∷ 2 ∷ [])) 2 s)) ≡
     (pos 4 ∷ pos 0 ∷ []) ∷ (pos 4 ∷ pos 0 ∷ []) ∷ []
-unfolding listBelow envelopePower phaseAt sumℤ minus phasePower turned
+unfolding listBelow envelopePower phaseAt sumℤ minus phasePower timesPhase
 word-powers = refl
 
 partner-powers : listBelow 2 (λ s. listBelow 2 (envelopePower 2 4 (symbolAt (0 ∷ 0 ∷ 2 ∷ 0 ∷ [])) 2 s)) ≡
     (pos 4 ∷ pos 0 ∷ []) ∷ (pos 4 ∷ pos 0 ∷ []) ∷ []
-unfolding listBelow envelopePower phaseAt sumℤ minus phasePower turned
+unfolding listBelow envelopePower phaseAt sumℤ minus phasePower timesPhase
 partner-powers = refl
 
 -- and at moment 1/8, where x is an eighth of a turn: 1 + x + x^2 - x^3 and 1 + x - x^2 + x^3 have the powers
 -- 4 + 2 x - 2 x^3 and 4 - 2 x + 2 x^3, which are 4 + 2 sqrt 2 and 4 - 2 sqrt 2
 word-eighth : listBelow 4 (envelopePower 2 4 (symbolAt (0 ∷ 0 ∷ 0 ∷ 2 ∷ [])) 3 1) ≡
     pos 4 ∷ pos 2 ∷ pos 0 ∷ negsuc 1 ∷ []
-unfolding listBelow envelopePower phaseAt sumℤ minus phasePower turned
+unfolding listBelow envelopePower phaseAt sumℤ minus phasePower timesPhase
 word-eighth = refl
 
 partner-eighth : listBelow 4 (envelopePower 2 4 (symbolAt (0 ∷ 0 ∷ 2 ∷ 0 ∷ [])) 3 1) ≡
     pos 4 ∷ negsuc 1 ∷ pos 0 ∷ pos 2 ∷ []
-unfolding listBelow envelopePower phaseAt sumℤ minus phasePower turned
+unfolding listBelow envelopePower phaseAt sumℤ minus phasePower timesPhase
 partner-eighth = refl
 
 -- symbols 0 and 1 at moment 1/4: the second carrier has turned on by a quarter, to 1 + j j = 0, and not back, to 1 + 1
 moment-turns-on : listBelow 2 (envelopePower 2 2 (symbolAt (0 ∷ 1 ∷ [])) 2 1) ≡ pos 0 ∷ pos 0 ∷ []
-unfolding listBelow envelopePower phaseAt sumℤ minus phasePower turned
+unfolding listBelow envelopePower phaseAt sumℤ minus phasePower timesPhase
 moment-turns-on = refl
 
 -- the known word 3 1 0 0 at amplitude 3, with no noise: -3 j, 3 j, 3, 3, real part before imaginary

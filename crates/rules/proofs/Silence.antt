@@ -11,7 +11,6 @@ use mathlib.Core.List.{List}
 use lib.Dec.{eqb, lit≤}
 use lib.IntN.{ℤ, pos}
 use lib.ListN.{replicate}
-use lib.Signed.{leZ}
 use Rattle.range.specs.Signed.{sumℤ, negatedIf, entry}
 use Rattle.range.proofs.SumsSigned.{sumℤ-cong}
 use Rattle.range.proofs.Shifts.{sumℤ-const}
@@ -19,7 +18,7 @@ use Rattle.rules.specs.Shape.{carriers, messageBits}
 use Rattle.rules.specs.Label.{labels, labelOf}
 use Rattle.rules.specs.Word.{wordAt}
 use Rattle.rules.specs.Soft.{heard, heardTwo, heardFour, correlation, softLength}
-use Rattle.rules.specs.Best.{Greatest}
+use Rattle.rules.specs.Best.{AtMost, Greatest}
 use Rattle.rules.proofs.BestLaws.{best-of-equal}
 
 zeros : ℕ → List ℤ
@@ -76,5 +75,5 @@ pub greatest-of-zeros : (h m : ℕ) → 1 ≤ h →
     Greatest h m (replicate (softLength h m) (pos 0)) (labelOf h m 0) (pos 0) true
 unfolding zeros
 greatest-of-zeros h m one =
-    rw (labelOf-zero h m) (best-of-equal (labels h m) leZ (correlation h m (zeros (softLength h m))) (pos 0)
+    rw (labelOf-zero h m) (best-of-equal (labels h m) AtMost (correlation h m (zeros (softLength h m))) (pos 0)
     (labels-two h m one) (λ l. correlation-zero h m (softLength h m) l) tt)

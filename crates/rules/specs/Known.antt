@@ -20,9 +20,9 @@ use Rattle.rules.specs.Path.{keep, pathAt}
 use Rattle.rules.specs.Label.{labelOf, labelPath, labelParts}
 use Rattle.rules.specs.Word.{wordOf, partnerOf}
 use Rattle.rules.specs.Soft.{correlation, softLength}
-use Rattle.rules.specs.Best.{Greatest, Nearest}
 use Rattle.rules.specs.Outcome.{gives, refuses, allowed}
 use Rattle.rules.specs.Refusal.{sendRefusal, pairOutcome, readOutcome, softRefusal, hardRefusal, transformRefusal}
+use Rattle.rules.specs.Decoding.{SoftAnswer, HardAnswer, SoftOutcome, HardOutcome}
 
 pub data Case : Type 0 where
   -- message g's word, and its partner
@@ -38,10 +38,10 @@ pub data Case : Type 0 where
   -- this m with any h, this h with any m: refused 1
   outsideM : ℕ → Case
   outsideH : ℕ → Case
-  -- soft values give message g with correlation v, tied with just the messages of the list
-  soft : (h m : ℕ) → List ℤ → (g : ℕ) → ℤ → List ℕ → Case
-  -- symbols give message g at distance d, tied
-  hard : (h m : ℕ) → List ℕ → (g d : ℕ) → Case
+  -- soft values give this answer, tied with just the messages of the list
+  soft : (h m : ℕ) → List ℤ → SoftAnswer → List ℕ → Case
+  -- symbols give this answer
+  hard : (h m : ℕ) → List ℕ → HardAnswer → Case
   -- no message has this word: reading refuses 5
   unread : (h m : ℕ) → List ℕ → Case
   -- any soft shape, all zeros: message 0 with correlation 0, tied
@@ -73,14 +73,14 @@ Right (taken h m g) = sendRefusal h m (carriers m) g ≡ allowed
 Right (refused4 h m g) = sendRefusal h m (carriers m) g ≡ refuses 4 []
 Right (outsideM m) = ((h : ℕ) → Refused1 h m) × ((y : List ℤ) (n : ℕ) → transformRefusal m y n ≡ refuses 1 [])
 Right (outsideH h) = (m : ℕ) → Refused1 h m
-Right (soft h m ys g v others) =
-    (softRefusal h m ys ≡ allowed) × Greatest h m ys (labelOf h m g) v true × (reaching h m ys g v ≡ others)
-Right (hard h m w g d) = (hardRefusal h m w ≡ allowed) × Nearest h m w (labelOf h m g) d true
+Right (soft h m ys a others) =
+    SoftOutcome h m ys (gives a) × (reaching h m ys (a .message) (a .correlation) ≡ others)
+Right (hard h m w a) = HardOutcome h m w (gives a)
 Right (unread h m w) = readOutcome h m w ≡ refuses 5 []
 Right silence =
     (h m : ℕ) → inShape h m ≡ true → h ≤ 2 →
-    (softRefusal h m (replicate (softLength h m) (pos 0)) ≡ allowed)
-    × Greatest h m (replicate (softLength h m) (pos 0)) (labelOf h m 0) (pos 0) true
+    SoftOutcome h m (replicate (softLength h m) (pos 0))
+    (gives (record { message = 0; correlation = pos 0; tied = true }))
 
 abbrev pub AllRight : List Case → Type 0
 AllRight [] = Unit {0}
@@ -113,9 +113,9 @@ starred =
     ∷ outsideM 6
     ∷ outsideH 0
     ∷ outsideH 4
-    ∷ soft 1 2 fourLeast 1 (pos 65536) (3 ∷ 5 ∷ 6 ∷ [])
+    ∷ soft 1 2 fourLeast (record { message = 1; correlation = pos 65536; tied = true }) (3 ∷ 5 ∷ 6 ∷ [])
     ∷ word 1 2 1 (1 ∷ 1 ∷ 1 ∷ 0 ∷ [])
     ∷ silence
-    ∷ hard 1 2 (1 ∷ 1 ∷ 1 ∷ 1 ∷ []) 1 1
+    ∷ hard 1 2 (1 ∷ 1 ∷ 1 ∷ 1 ∷ []) (record { message = 1; distance = 1; tied = true })
     ∷ unread 1 2 (1 ∷ 1 ∷ 1 ∷ 1 ∷ [])
     ∷ []

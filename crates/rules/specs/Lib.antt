@@ -5,6 +5,7 @@ pub mod Place
 pub mod Path
 pub mod Label
 pub mod Word
+pub mod Symbols
 pub mod Pair
 pub mod Autocorrelation
 pub mod Envelope

@@ -1,3 +1,2 @@
--- Laws of the tests and numbers of a shape, and of the search through a word.
+-- Laws of the numbers of a shape.
 pub mod Powers
-pub mod SymbolLaws

@@ -55,7 +55,6 @@ pub extern "C" fn sharqudel_check(
     ensures { λ r. ⌜ CheckedOut (pairOutcome h m (now (first .entry)) (now (second .entry))) r
         (now (pair .entry)) (now (pair .exit)) (now (place .entry)) (now (place .exit))
         (now (which .entry)) (now (which .exit)) ⌝ }
-    ensures { λ _. ⌜ (now (first .exit) ≡ now (first .entry)) × (now (second .exit) ≡ now (second .entry)) ⌝ }
 {
     match pair::check(h, m, first, second) {
         Paired::Yes => {
@@ -85,7 +84,6 @@ pub extern "C" fn sharqudel_read(
 ) -> u32
     ensures { λ r. ⌜ ReadOut (readOutcome h m (now (word .entry))) r
         (now (message .entry)) (now (message .exit)) (now (place .entry)) (now (place .exit)) ⌝ }
-    ensures { λ _. ⌜ now (word .exit) ≡ now (word .entry) ⌝ }
 {
     match reader::read(h, m, word) {
         Reading::Found(found) => {
@@ -109,7 +107,6 @@ pub extern "C" fn sharqudel_soft(
 ) -> u32
     ensures { λ r. ⌜ SoftOut h m (now (values .entry)) r (now (message .entry)) (now (message .exit))
         (now (correlation .entry)) (now (correlation .exit)) (now (tied .entry)) (now (tied .exit)) ⌝ }
-    ensures { λ _. ⌜ now (values .exit) ≡ now (values .entry) ⌝ }
 {
     match decoder::soft(h, m, values) {
         Heard::Found(found) => {
@@ -140,7 +137,6 @@ pub extern "C" fn sharqudel_hard(
     ensures { λ r. ⌜ HardOut h m (now (word .entry)) r (now (message .entry)) (now (message .exit))
         (now (distance .entry)) (now (distance .exit)) (now (tied .entry)) (now (tied .exit))
         (now (place .entry)) (now (place .exit)) ⌝ }
-    ensures { λ _. ⌜ now (word .exit) ≡ now (word .entry) ⌝ }
 {
     match decoder::hard(h, m, word) {
         Matched::Found(found) => {
@@ -160,7 +156,6 @@ pub extern "C" fn sharqudel_hard(
 pub extern "C" fn sharqudel_refusal(m: u32, first: &[i32], second: &[i32], place: &mut usize) -> u32
     ensures { λ r. ⌜ JudgedOut (transformRefusal m (now (first .entry)) (length (now (second .entry)))) r
         (now (place .entry)) (now (place .exit)) ⌝ }
-    ensures { λ _. ⌜ (now (first .exit) ≡ now (first .entry)) × (now (second .exit) ≡ now (second .entry)) ⌝ }
 {
     match transform::refusal(m, first, second) {
         Judged::Allowed => 0,

@@ -8,13 +8,12 @@ use mathlib.Core.Path.{sym}
 use mathlib.Core.Bool.{false}
 use mathlib.Core.List.{List}
 use mathlib.Core.Logic.{_≢_}
-use lib.Dec.{leb, le→leb}
 use Rattle.rules.specs.Shape.{phases, carriers}
 use Rattle.rules.specs.Label.{labels}
 use Rattle.rules.specs.Word.{wordAt, symbolAt}
 use Rattle.rules.specs.Distance.{distance}
-use Rattle.rules.specs.Best.{Nearest}
-use Rattle.rules.proofs.Symbols.{wordAt-lt}
+use Rattle.rules.specs.Best.{AtLeast, Nearest}
+use Rattle.rules.proofs.SymbolLaws.{wordAt-lt}
 use Rattle.rules.proofs.BestLaws.{best-alone}
 use Rattle.signals.proofs.Metric.{distance-comm, distance-triangle}
 
@@ -34,5 +33,5 @@ nearest-of-damage h m w l inside small apart =
     let d : ℕ → ℕ = λ k. distance h (carriers m) (symbolAt w) (wordAt h m k) in
     let less : (k : ℕ) → k < labels h m → k ≢ l → d l < d k = λ k b ne. nearer-of-half h (carriers m) (symbolAt w)
     (wordAt h m l) (wordAt h m k) small (λ i _. wordAt-lt h m l i) (λ i _. wordAt-lt h m k i) (apart k b ne) in
-    best-alone (labels h m) (λ a b. leb b a) d l inside (le→leb (d l) (d l) (le-refl (d l)))
-    (λ k b ne. (le→leb (d l) (d k) (le-of-lt (less k b ne)), λ e. ne-of-lt (less k b ne) (sym e)))
+    best-alone (labels h m) AtLeast d l inside (le-refl (d l))
+    (λ k b ne. (le-of-lt (less k b ne), λ e. ne-of-lt (less k b ne) (sym e)))

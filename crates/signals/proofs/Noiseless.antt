@@ -13,7 +13,7 @@ use lib.Dec.{T, eqb}
 use lib.IntN.{ℤ, pos, negℤ, natAbs, _+ℤ_, _-ℤ_, +ℤ-idr, +ℤ-comm, -ℤ-+ℤ-cancel, pos-+ℤ-pos}
 use lib.ListN.{length, List·getD-eq-default}
 use lib.Pow.{pow-pos, pow-mono}
-use lib.Signed.{leZ, ≤ℤ-refl}
+use lib.Signed.{≤ℤ-refl}
 use Rattle.range.specs.Signed.{entry}
 use Rattle.range.proofs.Lists.{length-listBelow, listBelow-at}
 use Rattle.range.proofs.Shifts.{shift-equal, shift-le}
@@ -23,8 +23,8 @@ use Rattle.rules.specs.Label.{labels}
 use Rattle.rules.specs.Word.{wordAt, symbolAt}
 use Rattle.rules.specs.Distance.{distance}
 use Rattle.rules.specs.Soft.{softLength, correlation, cleanAt, clean}
-use Rattle.rules.specs.Best.{Best, Greatest}
-use Rattle.rules.proofs.Symbols.{wordAt-lt}
+use Rattle.rules.specs.Best.{AtMost, Best, Greatest}
+use Rattle.rules.proofs.SymbolLaws.{wordAt-lt}
 use Rattle.rules.proofs.BestLaws.{best-alone}
 use Rattle.signals.proofs.Metric.{distance-zero-of-agree}
 use Rattle.signals.proofs.Units.{correlation-clean}
@@ -57,7 +57,7 @@ clean-size h m a w j = at (decLt j (softLength h m))
         rw (List·getD-eq-default (clean h m a w) (pos 0) b) zero-le
 
 -- what is left once something is taken away is no better than the whole, and not equal to it
-less-worse : (n e : ℕ) → 1 ≤ e → T (leZ (pos n -ℤ pos e) (pos n)) × (pos n -ℤ pos e ≢ pos n)
+less-worse : (n e : ℕ) → 1 ≤ e → AtMost (pos n -ℤ pos e) (pos n) × (pos n -ℤ pos e ≢ pos n)
 less-worse n e l =
     let x : ℤ = pos n -ℤ pos e in
     let p : pos n ≡ pos e +ℤ x = sym (+ℤ-comm (pos e) x ∙ -ℤ-+ℤ-cancel (pos n) (pos e)) in
@@ -84,7 +84,7 @@ module _ (h m a : ℕ) (w : List ℕ) (one : 1 ≤ h) (two : h ≤ 2)
       ∙ rw (same, mul-zero c) (+ℤ-idr (pos (carriers m * a)))
 
   correlation-of-apart : (k : ℕ) → 1 ≤ a → 1 ≤ distance h (carriers m) (symbolAt w) (wordAt h m k) →
-      T (leZ (correlation h m (clean h m a w) k) (pos (carriers m * a)))
+      AtMost (correlation h m (clean h m a w) k) (pos (carriers m * a))
       × (correlation h m (clean h m a w) k ≢ pos (carriers m * a))
   correlation-of-apart k some far =
       let d : ℕ = distance h (carriers m) (symbolAt w) (wordAt h m k) in
@@ -101,6 +101,6 @@ greatest-of-clean h m a w l one two some inside agree apart =
     let below : (i : ℕ) → i < carriers m → symbolAt w i < phases h =
     λ i b. rw (agree i b) (wordAt-lt h m l i) in
     let whole : c l ≡ pos (carriers m * a) = correlation-of-agree h m a w one two below l agree in
-    subst (λ v. Best (labels h m) leZ c l v false) whole (best-alone (labels h m) leZ c l inside
+    subst (λ v. Best (labels h m) AtMost c l v false) whole (best-alone (labels h m) AtMost c l inside
     (≤ℤ-refl (c l) .le)
     (λ k b ne. rw whole (correlation-of-apart h m a w one two below k some (apart k b ne))))

@@ -21,7 +21,7 @@ use Rattle.rules.specs.Word.{wordAt, symbolAt}
 use Rattle.rules.specs.Pair.{minus}
 use Rattle.rules.specs.Distance.{leeOf, lee, distance}
 use Rattle.rules.specs.Soft.{heard, correlation, clean}
-use Rattle.rules.proofs.Symbols.{wordAt-lt}
+use Rattle.rules.proofs.SymbolLaws.{wordAt-lt}
 use Rattle.signals.proofs.Distances.{distance-lee}
 use Rattle.signals.proofs.Clean.{heard-clean}
 

@@ -9,7 +9,6 @@ use native.Mathlib.Omega.{arith}
 use mathlib.Core.Path.{_≡_, refl, sym, _∙_, subst}
 use mathlib.Core.Bool.{true, Bool-set}
 use mathlib.Core.Logic.{_≢_, _⊎_, inl, inr, ∥∥₁-elim}
-use lib.Dec.{leb, le→leb}
 use borrow.Author.Tests.{eqb-true, eq-eqb}
 use Rattle.range.proofs.Tests.{below-suc}
 use Rattle.rules.specs.Best.{Best}
@@ -134,11 +133,11 @@ module _ (n : ℕ) (f : ℕ → ℕ) (st : Standing) (p : Leading n f st) where
   leading-tied (k, l, d, e) =
       eq-eqb (st .best) (st .second) (omega (arith, p .others k l d, p .ordered))
 
-  leading-is-best : 2 ≤ n → Best n leb f (st .label) (st .best) (tiedOf st)
+  leading-is-best : 2 ≤ n → Best n _≤_ f (st .label) (st .best) (tiedOf st)
   leading-is-best two = record {
     inside = p .inside;
     attained = p .attained;
-    best = λ k l. le→leb (f k) (st .best) (p .most k l);
+    best = p .most;
     earliest = λ k l e. omega (arith, p .earliest k l);
     tie = (
       (λ t. ∣ leading-another two (eqb-true (st .best) (st .second) t) ∣₁),
@@ -146,6 +145,6 @@ module _ (n : ℕ) (f : ℕ → ℕ) (st : Standing) (p : Leading n f st) where
     );
   }
 
-pub lead-best : (f : ℕ → ℕ) (n : ℕ) → 2 ≤ n → Best n leb f (lead f n .label) (lead f n .best) (tiedOf (lead f n))
+pub lead-best : (f : ℕ → ℕ) (n : ℕ) → 2 ≤ n → Best n _≤_ f (lead f n .label) (lead f n .best) (tiedOf (lead f n))
 lead-best f zero two = absurd (not-suc-le-zero two)
 lead-best f (suc n) two = leading-is-best (suc n) f (lead f (suc n)) (lead-leading f n) two

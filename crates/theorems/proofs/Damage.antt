@@ -19,7 +19,7 @@ use Rattle.rules.specs.Refusal.{hardRefusal}
 use Rattle.rules.specs.Decoding.{Near}
 use Rattle.rules.proofs.Range.{inShape-range, range-inM}
 use Rattle.signals.proofs.Damage.{nearest-of-damage}
-use Rattle.words.proofs.Labels.{labelOf-lt}
+use Rattle.rules.proofs.Messages.{labelOf-lt}
 use Rattle.distances.proofs.Apart.{hamming-apart, lee-apart}
 use Rattle.decoder.specs.declared.Matched.{Matched}
 use Rattle.decoder.specs.declared.Matched.the-variants.{Found as Matched·Found}

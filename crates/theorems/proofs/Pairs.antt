@@ -21,8 +21,8 @@ use Rattle.rules.specs.Outcome.{gives}
 use Rattle.rules.specs.Refusal.{pairOutcome}
 use Rattle.rules.proofs.Range.{inShape-range, range-inM}
 use Rattle.rules.proofs.OutcomeLaws.{gives-inj}
-use Rattle.rules.proofs.Symbols.{wordAt-lt, partnerAt-lt}
-use Rattle.words.proofs.Labels.{labelOf-lt}
+use Rattle.rules.proofs.SymbolLaws.{wordAt-lt, partnerAt-lt}
+use Rattle.rules.proofs.Messages.{labelOf-lt}
 use Rattle.words.proofs.Forms.{wordOf-at, partnerOf-at}
 use Rattle.golay.proofs.Autocorrelations.{golayPair-iff-cancel}
 use Rattle.golay.proofs.LabelPairs.{golayPair-word-partner}

@@ -4,7 +4,7 @@ use Rattle.rules.specs.Label.{labelOf}
 use Rattle.rules.specs.Word.{wordOf, partnerOf}
 use Rattle.rules.proofs.Range.{inShape-range, range-inM}
 use Rattle.signals.proofs.Noiseless.{clean-size}
-use Rattle.words.proofs.Labels.{labelOf-lt, labelOf-inj}
+use Rattle.rules.proofs.Messages.{labelOf-lt, labelOf-inj}
 use Rattle.words.proofs.Partners.{partnerOf-not-wordOf}
 use Rattle.golay.proofs.Autocorrelations.{cancel-iff-counts}
 use Rattle.distances.proofs.Apart.{hamming-apart, lee-apart}

@@ -20,10 +20,10 @@ use Rattle.rules.specs.Table.{badSymbol}
 use Rattle.rules.specs.Refusal.{readOutcome, hardRefusal, orNoWord}
 use Rattle.rules.specs.Decoding.{Loud, Near}
 use Rattle.rules.proofs.Range.{InRange, inShape-range, range-inM}
-use Rattle.rules.proofs.Symbols.{wordAt-lt}
+use Rattle.rules.proofs.SymbolLaws.{wordAt-lt}
 use Rattle.signals.proofs.Metric.{distance-zero-of-agree, distance-comm, distance-triangle}
 use Rattle.signals.proofs.Noiseless.{length-clean, greatest-of-clean}
-use Rattle.words.proofs.Labels.{labelOf-lt}
+use Rattle.rules.proofs.Messages.{labelOf-lt}
 use Rattle.words.proofs.Forms.{wordOf-at, wordOf-lt}
 use Rattle.distances.proofs.Apart.{distance-apart}
 use Rattle.reader.specs.declared.Reading.{Reading}

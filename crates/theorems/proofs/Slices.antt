@@ -12,7 +12,7 @@ use borrow.Author.Tests.{lt-leb}
 use Rattle.rules.specs.Shape.{inShape, phases, carriers, messages}
 use Rattle.rules.specs.Word.{wordOf, partnerOf, symbolAt}
 use Rattle.rules.specs.Table.{firstBad}
-use Rattle.shape.proofs.SymbolLaws.{firstBad-of-below}
+use Rattle.rules.proofs.SymbolLaws.{firstBad-of-below}
 use Rattle.words.proofs.Forms.{length-wordOf, length-partnerOf, wordOf-lt, partnerOf-lt}
 use Rattle.encoder.specs.declared.Written.{Written}
 use Rattle.encoder.specs.declared.Written.the-variants.{Done}

@@ -10,7 +10,7 @@ use Rattle.rules.specs.Shape.{phases, halfTurn, carriers}
 use Rattle.rules.specs.Word.{wordAt, symbolAt}
 use Rattle.rules.specs.Pair.{minus}
 use Rattle.rules.specs.Distance.{leeOf, lee, distance}
-use Rattle.rules.proofs.Symbols.{wordAt-lt}
+use Rattle.rules.proofs.SymbolLaws.{wordAt-lt}
 use Rattle.signals.proofs.Distances.{leeOf-le, distance-lee}
 use Rattle.totals.specs.Totals.{totalOf}
 use Rattle.totals.specs.Gains.{nearness, hardGain, tableOf}

@@ -20,7 +20,7 @@ use Rattle.rules.specs.Shape.{phases, halfTurn, carriers}
 use Rattle.rules.specs.Word.{wordAt}
 use Rattle.rules.specs.Soft.{heard, correlation}
 use Rattle.rules.proofs.Range.{phases-half}
-use Rattle.rules.proofs.Symbols.{wordAt-lt}
+use Rattle.rules.proofs.SymbolLaws.{wordAt-lt}
 use Rattle.signals.proofs.Hearing.{heard-half}
 use Rattle.totals.specs.Totals.{totalOf}
 use Rattle.totals.specs.Gains.{raiseBy, raised, softGain, tableOf}

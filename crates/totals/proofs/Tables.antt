@@ -8,7 +8,7 @@ use Rattle.range.proofs.Lists.{listBelow-at}
 use Rattle.range.proofs.Sums.{sumBelow-cong}
 use Rattle.rules.specs.Shape.{phases, carriers}
 use Rattle.rules.specs.Word.{wordAt}
-use Rattle.rules.proofs.Symbols.{wordAt-lt}
+use Rattle.rules.proofs.SymbolLaws.{wordAt-lt}
 use Rattle.totals.specs.Totals.{gainAt, totalOf}
 use Rattle.totals.specs.Gains.{tableOf}
 

@@ -14,7 +14,7 @@ use Rattle.rules.specs.Place.{digit, generatorAt}
 use Rattle.rules.specs.Path.{headOf, pathAt}
 use Rattle.rules.specs.Label.{labelPath, rowCoefficient, labelOf}
 use Rattle.rules.specs.Word.{links, formAt, wordAt, partnerAt, wordOf, partnerOf}
-use Rattle.rules.proofs.Symbols.{wordAt-lt, partnerAt-lt}
+use Rattle.rules.proofs.SymbolLaws.{wordAt-lt, partnerAt-lt}
 
 pub formAt-rows : (h m l i : ℕ) → formAt h m l i ≡
     halfTurn h * links (digit m i) (pathAt m (labelPath h m l))

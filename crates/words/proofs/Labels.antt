@@ -1,7 +1,7 @@
 -- Laws of label numbers: rules' Label. A label number is a numeral to base 2^h: the path number, then the coefficients
 -- c_1, .., c_m, then the constant, which stands lowest. In order: powers; bounds; the parts of a label without its
--- lowest digit; the parts determine the label; the number of given parts, and its parts; message numbers.
--- Not here: label order (Order), words (Readings).  Assumes nothing.
+-- lowest digit; the parts determine the label; the number of given parts, and its parts.
+-- Not here: message numbers (rules, Messages), label order (Order), words (Readings).  Assumes nothing.
 use Prim.Native.Nat.{ℕ, zero, suc, _+_, _-_, _*_, _/_, _%_, _^_, _≤_, _<_}
 use native.Mathlib.Nat.{pow-zero, pow-suc, pow-succ', mul-zero, mul-suc, mod-lt, div-div-eq-div-mul, div-add-mod'}
 use native.Mathlib.Nat.{le-refl, div-one, mul-one, mul-comm, suc-mul}
@@ -144,23 +144,3 @@ numberOf-back h m l =
     label-inj h m (numberOf h m n c c0) l (numberOf-path h c m n c0 s (constant-lt h l))
     (λ j a b. numberOf-coefficient h c m n c0 j s (constant-lt h l) a b)
     (numberOf-constant h c m n c0 (constant-lt h l))
-
--- message numbers and label numbers, one for one
-pub messageOf-labelOf : (h m g : ℕ) → messageOf h m (labelOf h m g) ≡ g
-unfolding labelOf messageOf
-messageOf-labelOf h m g = refl
-
-pub labelOf-messageOf : (h m l : ℕ) → labelOf h m (messageOf h m l) ≡ l
-unfolding labelOf messageOf
-labelOf-messageOf h m l = refl
-
-pub labelOf-inj : (h m g k : ℕ) → labelOf h m g ≡ labelOf h m k → g ≡ k
-labelOf-inj h m g k e = sym (messageOf-labelOf h m g) ∙ ap (messageOf h m) e ∙ messageOf-labelOf h m k
-
-pub labelOf-lt : (h m g : ℕ) → g < messages h m → labelOf h m g < labels h m
-unfolding labelOf
-labelOf-lt h m g b = b
-
-pub messageOf-lt : (h m l : ℕ) → l < labels h m → messageOf h m l < messages h m
-unfolding messageOf
-messageOf-lt h m l b = b

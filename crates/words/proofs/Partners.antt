@@ -13,11 +13,11 @@ use Rattle.rules.specs.Path.{IsPath, headOf, pathAt}
 use Rattle.rules.specs.Label.{labels, labelPath, labelOf}
 use Rattle.rules.specs.Word.{wordAt, partnerAt, wordOf, partnerOf}
 use Rattle.rules.proofs.Range.{inM-least}
-use Rattle.rules.proofs.Symbols.{wordAt-lt}
+use Rattle.rules.proofs.SymbolLaws.{wordAt-lt}
 use Rattle.rules.proofs.Turns.{halfTurn-moves}
 use Rattle.paths.proofs.Members.{isPath-in}
 use Rattle.places.proofs.Digits.{one-lt, digit-one-at}
-use Rattle.words.proofs.Labels.{labelOf-lt}
+use Rattle.rules.proofs.Messages.{labelOf-lt}
 use Rattle.words.proofs.Forms.{wordOf-at, partnerOf-at}
 use Rattle.words.proofs.Used.{labelPath-isPath}
 

@@ -2,7 +2,7 @@
 -- Assumes nothing.
 use Prim.Native.Nat.{ℕ, _*_, _+_, _^_, _≤_}
 use native.Mathlib.Omega.{arith}
-use mathlib.Core.Path.{_≡_, refl, sym, _∙_, ap}
+use mathlib.Core.Path.{_≡_, sym, _∙_, ap}
 use mathlib.Core.Bool.{true}
 use lib.ListN.{length}
 use lib.Seq.{length-take-le}
@@ -26,7 +26,7 @@ in-shape-requires : tie.Need-in-shape-requires
 in-shape-requires c κs = search needs
 
 returns : tie.Need-returns
-returns c = (hard-shape _ _ _ (sym (c .before .in-shape .ensures) ∙ not-true _ (c .if1 .taken)), refl)
+returns c = hard-shape _ _ _ (sym (c .before .in-shape .ensures) ∙ not-true _ (c .if1 .taken))
 
 -- the function's entry, seen from behind the first two tests; the shape is in range
 abbrev start : tie.Else2 → tie.Start
@@ -36,7 +36,7 @@ shaped : (c : tie.Else1) → let args = c .before .before .before .args in inSha
 shaped c = sym (c .before .in-shape .ensures) ∙ not-false _ (c .if1 .left)
 
 returns-2 : tie.Need-returns-2
-returns-2 c = (hard-octary _ _ _ (shaped (c .before)) (c .if2 .taken), refl)
+returns-2 c = hard-octary _ _ _ (shaped (c .before)) (c .if2 .taken)
 
 power-requires : tie.Need-power-requires
 power-requires c κs = search needs
@@ -49,11 +49,9 @@ carriers-is c =
 
 returns-3 : tie.Need-returns-3
 returns-3 c =
-    let twice = c .before .before in (
-      hard-length _ _ _ (shaped (twice .before)) (twice .if2 .left)
-          (λ e. c .if3 .taken (e ∙ sym (carriers-is (c .before)))),
-      refl,
-    )
+    let twice = c .before .before in
+    hard-length _ _ _ (shaped (twice .before)) (twice .if2 .left)
+    (λ e. c .if3 .taken (e ∙ sym (carriers-is (c .before))))
 
 power-requires-2 : tie.Need-power-requires-2
 power-requires-2 c κs = search needs
@@ -86,11 +84,9 @@ returns-4 : tie.Need-returns-4
 returns-4 c =
     let at-search = c .before .before .before in
     let at-length = at-search .before .before in
-    let at = twice at-length in (
-      hard-symbol _ _ _ (shaped (at .before)) (at .if2 .left) (long at-length) _
-          (sym (ap searchTold (c .before .place .given .1)) ∙ searched at-search),
-      refl,
-    )
+    let at = twice at-length in
+    hard-symbol _ _ _ (shaped (at .before)) (at .if2 .left) (long at-length) _
+    (sym (ap searchTold (c .before .place .given .1)) ∙ searched at-search)
 
 enum-told : tie.Need-enum-told
 enum-told c = search needs

@@ -35,7 +35,7 @@ searched-gains : (c : tie.After-search) → let args = start (raised c) .args in
     ≡ searched (args .h) (args .m) (tableOf (args .h) (args .m) (softGain (args .h) (now (args .values))))
 searched-gains c =
     let args = start (raised c) .args in
-    c .search .ensures .0 ∙ ap (searched (args .h) (args .m)) (raised c .raise .ensures .0)
+    c .search .ensures ∙ ap (searched (args .h) (args .m)) (raised c .raise .ensures .0)
 
 as-correlation-requires : tie.Need-as-correlation-requires
 as-correlation-requires c κs =

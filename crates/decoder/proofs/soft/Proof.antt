@@ -2,7 +2,7 @@
 -- Assumes nothing.
 use Prim.Native.Nat.{_*_, _-_, _+_, _^_, _≤_}
 use native.Mathlib.Omega.{arith}
-use mathlib.Core.Path.{_≡_, refl, sym, _∙_}
+use mathlib.Core.Path.{_≡_, sym, _∙_}
 use mathlib.Core.Bool.{true}
 use lib.Seq.{length-take-le}
 use denote.Ref.{now}
@@ -24,7 +24,7 @@ in-shape-requires : tie.Need-in-shape-requires
 in-shape-requires c κs = search needs
 
 returns : tie.Need-returns
-returns c = (soft-shape _ _ _ (sym (c .before .in-shape .ensures) ∙ not-true _ (c .if1 .taken)), refl)
+returns c = soft-shape _ _ _ (sym (c .before .in-shape .ensures) ∙ not-true _ (c .if1 .taken))
 
 -- the function's entry, seen from behind the first two tests; the shape is in range, and has at most four phases
 abbrev start : tie.Else2 → tie.Start
@@ -40,7 +40,7 @@ few : (c : tie.Else2) → start c .args .h ≤ 2
 few c = few-phases (start c .args .h) (start c .args .m) (shaped (c .before)) (c .if2 .left)
 
 returns-2 : tie.Need-returns-2
-returns-2 c = (soft-octary _ _ _ (shaped (c .before)) (c .if2 .taken), refl)
+returns-2 c = soft-octary _ _ _ (shaped (c .before)) (c .if2 .taken)
 
 sub-power : tie.Need-sub-power
 sub-power c = omega (arith, ranged c .h-least)
@@ -63,11 +63,9 @@ length-is c =
 
 returns-3 : tie.Need-returns-3
 returns-3 c =
-    let twice = c .before .before in (
-      soft-length _ _ _ (shaped (twice .before)) (twice .if2 .left)
-          (λ e. c .if3 .taken (e ∙ sym (length-is (c .before)))),
-      refl,
-    )
+    let twice = c .before .before in
+    soft-length _ _ _ (shaped (twice .before)) (twice .if2 .left)
+    (λ e. c .if3 .taken (e ∙ sym (length-is (c .before))))
 
 -- nothing is refused
 taken : (c : tie.Else3) → let args = start (c .before .before) .args in

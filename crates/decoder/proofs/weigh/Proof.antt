@@ -17,7 +17,8 @@ taken s = hard-taken _ _ _ (s .pre .0)
 compare-requires : tie.Need-compare-requires
 compare-requires c κs =
     let s = c .before .before .before in
-    ((taken s .shape, taken s .few), (taken s .long, s .pre .1))
+    let t = taken s in
+    ((t .symbols .shape, t .few), (t .symbols .long, s .pre .1))
 
 search-requires : tie.Need-search-requires
 search-requires c κs = search needs
@@ -35,14 +36,15 @@ searched-gains : (c : tie.After-search) → let args = start (compared c) .args 
     ≡ searched (args .h) (args .m) (tableOf (args .h) (args .m) (hardGain (args .h) (now (args .word))))
 searched-gains c =
     let args = start (compared c) .args in
-    c .search .ensures .0 ∙ ap (searched (args .h) (args .m)) (compared c .compare .ensures)
+    c .search .ensures ∙ ap (searched (args .h) (args .m)) (compared c .compare .ensures)
 
 as-distance-requires : tie.Need-as-distance-requires
 as-distance-requires c κs =
     let s = start (compared c) in
     let t = taken s in (
-      t .shape,
-      hard-best-le _ _ (t .shape) (t .few) (c .search .result) (now (s .args .word)) (t .inside) (searched-gains c),
+      t .symbols .shape,
+      hard-best-le _ _ (t .symbols .shape) (t .few) (c .search .result) (now (s .args .word)) (t .symbols .below)
+          (searched-gains c),
     )
 
 same-length : tie.Need-same-length
@@ -53,7 +55,8 @@ returns c =
     let found = c .before in
     let s = start (compared found) in
     let e = c .as-distance .ensures in
-    hard-found _ _ (taken s .shape) (taken s .few) (found .search .result) (now (s .args .word)) (taken s .inside)
+    let t = taken s in
+    hard-found _ _ (t .symbols .shape) (t .few) (found .search .result) (now (s .args .word)) (t .symbols .below)
     (searched-gains found) _ _ _ (s .pre .0) (e .0) (e .1) (e .2)
 
 pub weigh-spec : {M : Type 1} → statement M

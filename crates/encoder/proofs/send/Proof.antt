@@ -13,7 +13,7 @@ use Rattle.rules.specs.Shape.{inShape, carriers, halfTurn}
 use Rattle.rules.specs.Label.{labels}
 use Rattle.rules.specs.Table.{badMessage}
 use Rattle.shape.proofs.Powers.{power-carriers, takes-tells}
-use Rattle.words.proofs.Labels.{labelOf-lt}
+use Rattle.rules.proofs.Messages.{labelOf-lt}
 use Rattle.encoder.specs.Steps.{liftedAt}
 use Rattle.encoder.proofs.SentLaws.{send-shape, send-length, send-message, send-allowed, sent-refused, sent-done}
 use Rattle.encoder.proofs.send.Statement.{statement}

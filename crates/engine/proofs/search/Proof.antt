@@ -3,7 +3,7 @@
 -- Assumes nothing.
 use Prim.Native.Nat.{_≤_}
 use native.Mathlib.Omega.{arith}
-use mathlib.Core.Path.{_≡_, refl, sym, _∙_}
+use mathlib.Core.Path.{_≡_, sym, _∙_}
 use mathlib.Core.Bool.{true}
 use lib.Dec.{lit≤}
 use lib.Seq.{length-take-le}
@@ -22,7 +22,7 @@ takes-requires : tie.Need-takes-requires
 takes-requires c κs = search needs
 
 returns : tie.Need-returns
-returns c = (searched-not _ _ _ (sym (c .before .takes .ensures) ∙ not-true _ (c .if1 .taken)), refl)
+returns c = searched-not _ _ _ (sym (c .before .takes .ensures) ∙ not-true _ (c .if1 .taken))
 
 power-requires : tie.Need-power-requires
 power-requires c κs = search needs
@@ -71,7 +71,7 @@ paths-requires c κs =
 returns-2 : tie.Need-returns-2
 returns-2 c =
     let done = c .before .before .before in
-    (rw (searched-is _ _ _ (taken (done .before .before .before .before .before))) (done .paths .ensures), refl)
+    rw (searched-is _ _ _ (taken (done .before .before .before .before .before))) (done .paths .ensures)
 
 pub search-spec : {M : Type 1} → statement M
 search-spec =

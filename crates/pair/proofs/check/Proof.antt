@@ -1,7 +1,7 @@
 -- `pair::check` meets its contract: it refuses by the table, in its order, and past that the counts answer.
 -- Assumes nothing.
 use Prim.Native.Nat.{ℕ}
-use mathlib.Core.Path.{_≡_, refl, sym, _∙_, ap}
+use mathlib.Core.Path.{_≡_, sym, _∙_, ap}
 use mathlib.Core.Bool.{true}
 use mathlib.Core.Option.{none}
 use denote.Ref.{now}
@@ -30,7 +30,7 @@ in-shape-requires : tie.Need-in-shape-requires
 in-shape-requires c κs = search needs
 
 returns : tie.Need-returns
-returns c = (pair-shape _ _ _ _ (sym (c .before .in-shape .ensures) ∙ not-true _ (c .if1 .taken)), (refl, refl))
+returns c = pair-shape _ _ _ _ (sym (c .before .in-shape .ensures) ∙ not-true _ (c .if1 .taken))
 
 power-requires : tie.Need-power-requires
 power-requires c κs = search needs
@@ -49,17 +49,14 @@ n-is : (c : tie.After-power2) → c .power2 .result ≡ carriers (start (c .befo
 n-is c = c .power2 .ensures ∙ power-carriers (start (c .before .before) .args .h) _ (shaped (c .before .before))
 
 returns-2 : tie.Need-returns-2
-returns-2 c = (
-  pair-first-length _ _ _ _ (shaped (c .before .before .before)) (λ e. c .if2 .taken (e ∙ sym (n-is (c .before)))),
-  (refl, refl),
-)
+returns-2 c =
+    pair-first-length _ _ _ _ (shaped (c .before .before .before)) (λ e. c .if2 .taken (e ∙ sym (n-is (c .before))))
 
 returns-3 : tie.Need-returns-3
-returns-3 c = let powers = c .before .before in (
-  pair-second-length _ _ _ _ (shaped (powers .before .before)) (c .before .if2 .left ∙ n-is powers)
-      (λ e. c .if3 .taken (e ∙ sym (n-is powers))),
-  (refl, refl),
-)
+returns-3 c =
+    let powers = c .before .before in
+    pair-second-length _ _ _ _ (shaped (powers .before .before)) (c .before .if2 .left ∙ n-is powers)
+    (λ e. c .if3 .taken (e ∙ sym (n-is powers)))
 
 -- past the lengths, with q as the code has it
 abbrev entry : tie.Else3 → tie.Start
@@ -87,11 +84,10 @@ enum-known-place : tie.Need-enum-known-place
 enum-known-place c = search needs
 
 returns-4 : tie.Need-returns-4
-returns-4 c = let searched = c .before .before .before in (
-  pair-first-symbol _ _ _ _ _ (sized (searched .before)) _
-      (sym (ap searchTold (c .before .place .given .1)) ∙ searched .first-bad .ensures),
-  (refl, refl),
-)
+returns-4 c =
+    let searched = c .before .before .before in
+    pair-first-symbol _ _ _ _ _ (sized (searched .before)) _
+    (sym (ap searchTold (c .before .place .given .1)) ∙ searched .first-bad .ensures)
 
 enum-told : tie.Need-enum-told
 enum-told c = search needs
@@ -117,11 +113,10 @@ enum-known-place-2 : tie.Need-enum-known-place-2
 enum-known-place-2 c = search needs
 
 returns-5 : tie.Need-returns-5
-returns-5 c = let searched = c .before .before .before in (
-  pair-second-symbol _ _ _ _ _ (sized (past (searched .before))) (first-good (searched .before)) _
-      (sym (ap searchTold (c .before .place2 .given .1)) ∙ searched .first-bad2 .ensures),
-  (refl, refl),
-)
+returns-5 c =
+    let searched = c .before .before .before in
+    pair-second-symbol _ _ _ _ _ (sized (past (searched .before))) (first-good (searched .before)) _
+    (sym (ap searchTold (c .before .place2 .given .1)) ∙ searched .first-bad2 .ensures)
 
 enum-told-2 : tie.Need-enum-told-2
 enum-told-2 c = search needs
@@ -138,10 +133,10 @@ answered c =
     ∙ pair-given _ _ _ _ _ s (first-good (told (c .before))) (second-good (c .before))
 
 returns-6 : tie.Need-returns-6
-returns-6 c = (ap gives (sym (c .if4 .taken)) ∙ answered (c .before), (refl, refl))
+returns-6 c = ap gives (sym (c .if4 .taken)) ∙ answered (c .before)
 
 returns-7 : tie.Need-returns-7
-returns-7 c = (ap gives (sym (c .if4 .left)) ∙ answered (c .before), (refl, refl))
+returns-7 c = ap gives (sym (c .if4 .left)) ∙ answered (c .before)
 
 pub check-spec : {M : Type 1} → statement M
 check-spec =

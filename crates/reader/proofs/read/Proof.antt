@@ -1,7 +1,7 @@
 -- `reader::read` meets its contract: each test refuses by the table, in its order, and the search answers what is left.
 -- Assumes nothing.
 use Prim.Native.Nat.{ℕ}
-use mathlib.Core.Path.{_≡_, refl, sym, _∙_, ap}
+use mathlib.Core.Path.{_≡_, sym, _∙_, ap}
 use mathlib.Core.Bool.{true}
 use mathlib.Core.Option.{none}
 use lib.ListN.{length}
@@ -9,10 +9,10 @@ use denote.Ref.{now}
 use borrow.Author.Needs.{needs}
 use borrow.Author.Tests.{not-true, not-false}
 use Rattle.rules.specs.Shape.{inShape, phases, carriers}
-use Rattle.rules.specs.Table.{firstBad}
+use Rattle.rules.specs.Table.{firstBad, badSymbol}
 use Rattle.kinds.specs.Told.{searchTold}
 use Rattle.shape.proofs.Powers.{power-phases, power-carriers}
-use Rattle.shape.proofs.SymbolLaws.{firstBad-none}
+use Rattle.rules.proofs.SymbolLaws.{symbols-of-none}
 use Rattle.reader.proofs.Outcomes.{read-shape, read-length, read-symbol, read-search}
 use Rattle.reader.proofs.read.Statement.{statement}
 use Rattle.reader.proofs.read.Tie as tie
@@ -21,7 +21,7 @@ in-shape-requires : tie.Need-in-shape-requires
 in-shape-requires c κs = search needs
 
 returns : tie.Need-returns
-returns c = (read-shape _ _ _ (sym (c .before .in-shape .ensures) ∙ not-true _ (c .if1 .taken)), refl)
+returns c = read-shape _ _ _ (sym (c .before .in-shape .ensures) ∙ not-true _ (c .if1 .taken))
 
 power-requires : tie.Need-power-requires
 power-requires c κs = search needs
@@ -42,10 +42,7 @@ carriers-is c =
     c .power .ensures ∙ power-carriers (args .h) (args .m) (shaped (c .before))
 
 returns-2 : tie.Need-returns-2
-returns-2 c = (
-  read-length _ _ _ (shaped (c .before .before)) (λ e. c .if2 .taken (e ∙ sym (carriers-is (c .before)))),
-  refl,
-)
+returns-2 c = read-length _ _ _ (shaped (c .before .before)) (λ e. c .if2 .taken (e ∙ sym (carriers-is (c .before))))
 
 power-requires-2 : tie.Need-power-requires-2
 power-requires-2 c κs = search needs
@@ -70,11 +67,9 @@ searched c =
 
 returns-3 : tie.Need-returns-3
 returns-3 c = let at-search = c .before .before .before in
-    let at-length = at-search .before .before in (
-      read-symbol _ _ _ (shaped (shape-test at-length)) (long at-length) _
-          (sym (ap searchTold (c .before .place .given .1)) ∙ searched at-search),
-      refl,
-    )
+    let at-length = at-search .before .before in
+    read-symbol _ _ _ (shaped (shape-test at-length)) (long at-length) _
+    (sym (ap searchTold (c .before .place .given .1)) ∙ searched at-search)
 
 enum-told : tie.Need-enum-told
 enum-told c = search needs
@@ -89,17 +84,14 @@ good : (c : tie.After-enum-told) → let at = start (shape-test (length-test c))
 good c = sym (ap searchTold (c .enum-told .given .1)) ∙ searched (c .before .before)
 
 search-requires : tie.Need-search-requires
+unfolding badSymbol
 search-requires c κs =
     let at-length = length-test c in
-    record {
-      shape = shaped (shape-test at-length);
-      long = long at-length;
-      symbols = firstBad-none _ (now (start (shape-test at-length) .args .word)) (good c);
-    }
+    symbols-of-none _ _ _ (shaped (shape-test at-length)) (long at-length) (good c)
 
 returns-4 : tie.Need-returns-4
 returns-4 c = let at-length = length-test (c .before) in
-    (c .search .ensures ∙ read-search _ _ _ (shaped (shape-test at-length)) (long at-length) (good (c .before)), refl)
+    c .search .ensures ∙ read-search _ _ _ (shaped (shape-test at-length)) (long at-length) (good (c .before))
 
 pub read-spec : {M : Type 1} → statement M
 read-spec =

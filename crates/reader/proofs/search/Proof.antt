@@ -18,7 +18,8 @@ use Rattle.rules.specs.Table.{messageWith}
 use Rattle.rules.specs.Refusal.{orNoWord}
 use Rattle.rules.proofs.Range.{InRange, inShape-range, coefficientBits-le, messageBits-le}
 use Rattle.rules.proofs.Range.{mostCoefficientBits, mostBits}
-use Rattle.words.proofs.Labels.{phases-pow, messageOf-lt}
+use Rattle.words.proofs.Labels.{phases-pow}
+use Rattle.rules.proofs.Messages.{messageOf-lt}
 use Rattle.words.proofs.Powers.{power-labels, power-uses}
 use Rattle.reader.specs.Shown.{labelWith}
 use Rattle.reader.proofs.ShownLaws.{labelWith-zero, labelWith-next, labelWith-lt, messageWith-some}

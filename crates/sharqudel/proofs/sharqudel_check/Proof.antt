@@ -1,6 +1,5 @@
 -- `sharqudel::sharqudel_check` meets its contract: it takes the answer of `check` apart, each piece into its cell.
 -- Assumes nothing.
-use mathlib.Core.Path.{refl}
 use borrow.Author.Needs.{needs}
 use Rattle.sharqudel.proofs.OutLaws.{checkedOut-given, checkedOut-refused}
 use Rattle.sharqudel.proofs.Carried.{pairOutcome-listed}
@@ -26,20 +25,18 @@ tell-requires : tie.Need-tell-requires
 tell-requires c κs = search needs
 
 returns : tie.Need-returns
-returns c = (checkedOut-given (rw (c .enum-told .given .1) at (c .before .before .check .ensures .0)), (refl, refl))
+returns c = checkedOut-given (rw (c .enum-told .given .1) at (c .before .before .check .ensures))
 
 returns-2 : tie.Need-returns-2
-returns-2 c = (checkedOut-given (rw (c .enum-told2 .given .1) at (c .before .before .check .ensures .0)), (refl, refl))
+returns-2 c = checkedOut-given (rw (c .enum-told2 .given .1) at (c .before .before .check .ensures))
 
 returns-3 : tie.Need-returns-3
 returns-3 c =
     let named = c .before .before in
     let arm = named .before .before .before in
-    let told = rw (arm .why .given .1) at (arm .before .before .check .ensures .0) in (
-      checkedOut-refused (arm .why .given .0 .0) (arm .why .given .0 .1 .0) (pairOutcome-listed _ _ _ _) told
-          (c .tell .ensures) (named .name .ensures),
-      (refl, refl),
-    )
+    let told = rw (arm .why .given .1) at (arm .before .before .check .ensures) in
+    checkedOut-refused (arm .why .given .0 .0) (arm .why .given .0 .1 .0) (pairOutcome-listed _ _ _ _) told
+    (c .tell .ensures) (named .name .ensures)
 
 pub sharqudel-check-spec : {M : Type 1} → statement M
 sharqudel-check-spec =

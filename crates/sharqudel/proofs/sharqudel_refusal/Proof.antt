@@ -1,6 +1,5 @@
 -- `sharqudel::sharqudel_refusal` meets its contract: it takes the answer of `refusal` apart, each piece into its cell.
 -- Assumes nothing.
-use mathlib.Core.Path.{refl}
 use borrow.Author.Needs.{needs}
 use Rattle.sharqudel.proofs.OutLaws.{judgedOut-allowed, judgedOut-refused}
 use Rattle.sharqudel.proofs.sharqudel_refusal.Statement.{statement}
@@ -19,14 +18,13 @@ tell-requires : tie.Need-tell-requires
 tell-requires c κs = search needs
 
 returns : tie.Need-returns
-returns c = (judgedOut-allowed (rw (c .enum-told .given .1) at (c .before .before .refusal .ensures .0)), (refl, refl))
+returns c = judgedOut-allowed (rw (c .enum-told .given .1) at (c .before .before .refusal .ensures))
 
 returns-2 : tie.Need-returns-2
-returns-2 c = let arm = c .before .before .before in (
-  judgedOut-refused (arm .why .given .0 .0) (rw (arm .why .given .1) at (arm .before .before .refusal .ensures .0))
-      (c .tell .ensures),
-  (refl, refl),
-)
+returns-2 c =
+    let arm = c .before .before .before in
+    judgedOut-refused (arm .why .given .0 .0) (rw (arm .why .given .1) at (arm .before .before .refusal .ensures))
+    (c .tell .ensures)
 
 pub sharqudel-refusal-spec : {M : Type 1} → statement M
 sharqudel-refusal-spec =

@@ -29,7 +29,7 @@ encoded c = c .before .before .before .before
 
 returns : tie.Need-returns
 returns c =
-    check-trip (encoded (partnered c) .encode .ensures) (partnered c .partner .ensures) (c .check .ensures .0)
+    check-trip (encoded (partnered c) .encode .ensures) (partnered c .partner .ensures) (c .check .ensures)
 
 pub check-back-spec : {M : Type 1} → statement M
 check-back-spec =

@@ -19,7 +19,7 @@ abbrev encoded : tie.After-hard → tie.After-encode
 encoded c = c .before .before .before .before
 
 returns : tie.Need-returns
-returns c = hard-trip (encoded c .encode .ensures) (c .hard .ensures .0)
+returns c = hard-trip (encoded c .encode .ensures) (c .hard .ensures)
 
 pub hard-back-spec : {M : Type 1} → statement M
 hard-back-spec = tie.close (tie.spec encode-requires hard-requires same-length returns)

@@ -19,7 +19,7 @@ abbrev encoded : tie.After-read → tie.After-encode
 encoded c = c .before .before .before .before
 
 returns : tie.Need-returns
-returns c = read-trip (encoded c .encode .ensures) (c .read .ensures .0)
+returns c = read-trip (encoded c .encode .ensures) (c .read .ensures)
 
 pub read-back-spec : {M : Type 1} → statement M
 read-back-spec = tie.close (tie.spec encode-requires read-requires same-length returns)
