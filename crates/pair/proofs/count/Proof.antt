@@ -29,7 +29,7 @@ power-requires c κs = search needs
 
 -- q is 2^h, at least 1
 q-is : (c : tie.After-power Inv-loop μ-loop) → c .power .result ≡ phases (c .before .before .args .h)
-q-is c = c .power .ensures ∙ power-is _ (omega (arith, c .before .before .pre .0 .h-most))
+q-is c = c .power .ensures ∙ power-is _ (omega (arith, c .before .before .pre .0))
 
 q-least : (c : tie.After-power Inv-loop μ-loop) → 1 ≤ c .power .result
 q-least c = rw (q-is c) (pow-pos _)
