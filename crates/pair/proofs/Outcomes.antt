@@ -1,6 +1,6 @@
 -- What the pair check is to answer on each way out of the code.
--- In order: the shape refused; a length; a symbol; what is left to the counts, and what they require; back, from what
--- is given.
+-- In order: the shape refused; a length; a symbol; what the counts require; what is left to them; back, from what is
+-- given.
 -- Assumes nothing.
 use Prim.Native.Nat.{ℕ}
 use mathlib.Core.Path.{_≡_, sym}
@@ -17,8 +17,7 @@ use Rattle.rules.specs.Table.{badShape, badLength, badSymbol, firstBad}
 use Rattle.rules.specs.Refusal.{pairOutcome}
 use Rattle.rules.proofs.Range.{inShape-range}
 use Rattle.rules.proofs.OutcomeLaws.{gives-inj, refuse-gives, refuseAt-gives}
-use Rattle.rules.proofs.SymbolLaws.{firstBad-none}
-use Rattle.pair.specs.Words.{SymbolsBelow, Words}
+use Rattle.pair.specs.Words.{Words}
 
 module _ (h m : ℕ) (a b : List ℕ) where
   pub pair-shape : inShape h m ≡ false → refuses 1 [] ≡ pairOutcome h m a b
@@ -52,14 +51,10 @@ module _ (h m q : ℕ) (a b : List ℕ) (s : Sized h m q a b) where
   pub pair-first-symbol : (i : ℕ) → some i ≡ firstBad q a → refuses 3 (i ∷ 1 ∷ []) ≡ pairOutcome h m a b
   pair-first-symbol i e = rw (pair-symbols, sym e)
 
-  below : (w : List ℕ) → none ≡ firstBad q w → SymbolsBelow h w
-  below w g =
+  pub pair-words : Words h a b
+  pair-words =
       let r = inShape-range h m (s .shape) in
-      record {
-        h-least = r .h-least;
-        h-most = r .h-most;
-        symbols = λ i l. rw (s .turn) at (firstBad-none q w g i l);
-      }
+      record { h-least = r .h-least; h-most = r .h-most; lengths = cc }
 
   module _ (e : none ≡ firstBad q a) where
     pub pair-second-symbol : (i : ℕ) → some i ≡ firstBad q b → refuses 3 (i ∷ 2 ∷ []) ≡ pairOutcome h m a b
@@ -68,9 +63,6 @@ module _ (h m q : ℕ) (a b : List ℕ) (s : Sized h m q a b) where
     module _ (f : none ≡ firstBad q b) where
       pub pair-given : gives (golayPair h m (symbolAt a) (symbolAt b)) ≡ pairOutcome h m a b
       pair-given = rw (pair-symbols, sym e, sym f)
-
-      pub pair-words : Words h a b
-      pair-words = record { first = below a e; second = below b f; lengths = cc }
 
 -- back: what is given is the test of a pair, and the shape is in range
 pub pair-gives : (h m : ℕ) (a b : List ℕ) (t : Bool) → pairOutcome h m a b ≡ gives t →

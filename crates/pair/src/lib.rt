@@ -6,12 +6,12 @@ use kinds::Search;
 ghost use Prim.Native.Nat.{ℕ, _≤_};
 ghost use mathlib.Core.Path.{_≡_};
 ghost use lib.ListN.{length};
-ghost use Rattle.rules.specs.Shape.{carriers};
+ghost use Rattle.rules.specs.Shape.{greatestH, carriers};
 ghost use Rattle.rules.specs.Pair.{phaseCount, pairCount, golayPair, phasesAgree};
 ghost use Rattle.rules.specs.Word.{symbolAt};
 ghost use Rattle.rules.specs.Refusal.{pairOutcome};
 ghost use Rattle.pair.specs.Told.{pairedTold};
-ghost use Rattle.pair.specs.Words.{SymbolsBelow, Words};
+ghost use Rattle.pair.specs.Words.{Words};
 
 // Which word a refusal speaks of: kinds 1 and 2 speak of either, kind 3 of one.
 pub enum Which {
@@ -101,7 +101,7 @@ fn both(h: u32, first: &[u8], second: &[u8], u: usize, k: u64) -> usize
 
 // How many places have a symbol that is k more, modulo 2^h, than the symbol u places on, which is at j.
 fn count(h: u32, word: &[u8], u: usize, k: u64) -> usize
-    requires { ⌜ SymbolsBelow h (now word) × (u ≤ length (now word)) ⌝ }
+    requires { ⌜ (h ≤ greatestH) × (u ≤ length (now word)) ⌝ }
     ensures { λ r. ⌜ r ≡ phaseCount h (length (now (word .entry))) (symbolAt (now (word .entry))) u k ⌝ }
 {
     let q = shape::power(h);

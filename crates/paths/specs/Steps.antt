@@ -1,12 +1,22 @@
 -- A path's steps as code holds them.
 -- Defines:  pathRow m n    p(1), .., p(m) of path n, and 0 after the m-th, as many as the greatest m
--- Assumes nothing: this is a definition.
+--           inUse m n      whether m is in its range and path n among those in use
+--           stepsOf m n    the row of a path in use, and zeros for any other numbers
+-- Laws: proofs/PathTable.antt.  Assumes nothing: these are definitions.
 use Prim.Native.Nat.{ℕ}
+use mathlib.Core.Bool.{Bool, cond, _&&_}
 use mathlib.Core.List.{List}
-use lib.ListN.{getD}
+use lib.Dec.{ltb}
+use lib.ListN.{getD, replicate}
 use Rattle.range.specs.Below.{listBelow}
-use Rattle.rules.specs.Shape.{greatestM}
+use Rattle.rules.specs.Shape.{greatestM, inM, pathsInUse}
 use Rattle.rules.specs.Path.{pathAt}
 
 unfoldable pub pathRow : ℕ → ℕ → List ℕ
 pathRow m n = listBelow greatestM (λ k. getD (pathAt m n) k 0)
+
+abbrev pub inUse : ℕ → ℕ → Bool
+inUse m n = inM m && ltb n (pathsInUse m)
+
+unfoldable pub stepsOf : ℕ → ℕ → List ℕ
+stepsOf m n = cond (inUse m n) (pathRow m n) (replicate greatestM 0)

@@ -1,12 +1,9 @@
 // The paths in use: document 01 "What a logger may send". The table is checked against the rules as a whole
 // (proofs/PathTable.antt); the laws of all paths stand beside it in proofs/.
 use kinds::PathNumber;
-use shape::GREATEST_M;
 use shape::STEPS;
-ghost use Prim.Native.Nat.{_≤_, _<_};
 ghost use mathlib.Core.Path.{_≡_};
-ghost use Rattle.rules.specs.Shape.{greatestM, pathsInUse};
-ghost use Rattle.paths.specs.Steps.{pathRow};
+ghost use Rattle.paths.specs.Steps.{inUse, stepsOf};
 
 // How many paths are in use, of every m together.
 const USED: usize = 43;
@@ -61,17 +58,23 @@ const PATHS: [[u8; STEPS]; USED] = [
 // Where the paths of m = 2, 3, 4 and 5 begin.
 const STARTS: [usize; STEPS - 1] = [0, 1, 3, 11];
 
-// The steps of path n of m, 0 after the m-th, for an m in range and a path in use; else a row of the table or zeros.
+// The steps of path n of m, 0 after the m-th, where m is in range and the path in use; else zeros.
 pub fn steps(m: u32, n: PathNumber) -> [u8; STEPS]
-    ensures { λ p. ⌜ (2 ≤ m → m ≤ greatestM → n .0 < pathsInUse m → p ≡ pathRow m (n .0)) ⌝ }
+    ensures { λ p. ⌜ p ≡ stepsOf m (n .0) ⌝ }
 {
-    if m < 2 {
-        return [0; STEPS];
-    }
-    if GREATEST_M < m {
+    if !in_use(m, n) {
         return [0; STEPS];
     }
     let first = STARTS[m as usize - 2];
-    let at = first + n.0 as usize;
-    if at < USED { PATHS[at] } else { [0; STEPS] }
+    PATHS[first + n.0 as usize]
+}
+
+fn in_use(m: u32, n: PathNumber) -> bool
+    ensures { λ r. ⌜ r ≡ inUse m (n .0) ⌝ }
+{
+    if !shape::in_m(m) {
+        return false;
+    }
+    let at = n.0 as u64;
+    at < shape::power(shape::path_bits(m))
 }

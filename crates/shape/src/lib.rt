@@ -1,11 +1,10 @@
 // The tests of document 01's table and the numbers that a shape gives, as code.
-// No function here has a requires: outside its range each says what it gives, but for `minus`, which promises only
-// inside.
+// No function here has a requires: each says what it gives for every number that it takes.
 // The greatest h, the greatest m and the table w stand here alone; their definitions are in rules, specs/Shape.antt.
 use kinds::MessageNumber;
 use kinds::Place;
 use kinds::Search;
-ghost use Prim.Native.Nat.{_^_, _≤_};
+ghost use Prim.Native.Nat.{_^_, min};
 ghost use mathlib.Core.Path.{_≡_};
 ghost use mathlib.Core.Bool.{not, cond, _&&_};
 ghost use lib.Dec.{ltb};
@@ -98,22 +97,30 @@ pub fn message_of(h: u32, m: u32, label: u64) -> MessageNumber
     MessageNumber(label)
 }
 
-// a - b modulo q, where q is from 1 to 256 and b is at most q; else 0.
+// a - b modulo q, for a and b below q. For other numbers, too, it is rules' `minus`: b counts as at most q, and a number
+// modulo 0 is itself.
 pub fn minus(q: u64, a: u8, b: u8) -> u64
-    ensures { λ r. ⌜ (1 ≤ q → q ≤ 256 → b ≤ q → r ≡ minus q a b) ⌝ }
+    ensures { λ r. ⌜ r ≡ minus q a b ⌝ }
 {
     let x = wide(a);
-    let y = wide(b);
+    let y = lesser(q, wide(b));
+    if x < y {
+        return x + (q - y);
+    }
+    let d = x - y;
+    if d < q {
+        return d;
+    }
     if q == 0 {
-        return 0;
+        return x;
     }
-    if 256 < q {
-        return 0;
-    }
-    if q < y {
-        return 0;
-    }
-    (x + (q - y)) % q
+    d % q
+}
+
+fn lesser(x: u64, y: u64) -> u64
+    ensures { λ r. ⌜ r ≡ min x y ⌝ }
+{
+    if x < y { x } else { y }
 }
 
 fn wide(x: u8) -> u64

@@ -20,7 +20,7 @@ minus-requires c κs = search needs
 -- the difference, which is below q
 difference : (c : tie.After-minus) → let args = c .before .args in
     c .minus .result ≡ minus (args .q) (args .a) (args .s)
-difference c = c .minus .ensures (omega arith) (c .before .pre .0) (omega arith)
+difference c = c .minus .ensures
 
 difference-of : (c : tie.After-minus) (h : ℕ) → let args = c .before .args in
     args .q ≡ phases h → c .minus .result ≡ minus (phases h) (args .a) (args .s)

@@ -9,6 +9,7 @@ use Rattle.rules.specs.Shape.{greatestH, phases, halfTurn, pathsInUse}
 use Rattle.rules.proofs.Range.{InRange, inShape-range, phases-by-two, phases-least, phases-most, carriers-most}
 use Rattle.shape.proofs.Powers.{power-phases}
 use Rattle.paths.specs.Steps.{pathRow}
+use Rattle.paths.proofs.PathTable.{stepsOf-used}
 use Rattle.words.proofs.Labels.{labelPath-lt}
 use Rattle.encoder.proofs.Formula.{Held, held-cells, held-small, held-walk, held-symbols}
 use Rattle.encoder.proofs.fill.Statement.{statement}
@@ -75,7 +76,8 @@ held c =
       used = start (at-power c) .pre .1 .1 .0;
       rows = c .before .generator .ensures;
       steps =
-          c .steps .ensures (range .m-least) (range .m-most) (used c) ∙ ap (pathRow (args .m)) (parts .path);
+          c .steps .ensures ∙ stepsOf-used _ _ (range .m-least) (range .m-most) (used c)
+          ∙ ap (pathRow (args .m)) (parts .path);
       coefficients = parts .rows;
       base = base (at-power c);
       lifted =

@@ -34,10 +34,10 @@ start c = c .before .before .before
 
 -- q is 2^h, and half of it half a turn
 q-is : (c : tie.After-power Inv-loop μ-loop) → c .power .result ≡ phases (start c .args .h)
-q-is c = c .power .ensures ∙ power-is _ (omega (arith, start c .pre .0 .first .h-most))
+q-is c = c .power .ensures ∙ power-is _ (omega (arith, start c .pre .0 .h-most))
 
 half-is : (c : tie.After-power Inv-loop μ-loop) → c .power .result / 2 ≡ halfTurn (start c .args .h)
-half-is c = omega (arith, q-is c, phases-half _ (start c .pre .0 .first .h-least))
+half-is c = omega (arith, q-is c, phases-half _ (start c .pre .0 .h-least))
 
 loop-holds : tie.Need-loop-holds Inv-loop μ-loop
 loop-holds c = (omega arith, below-none _)
@@ -48,7 +48,7 @@ both-requires c κs = search needs
 add-both : tie.Need-add-both Inv-loop μ-loop
 add-both c =
     let powered = c .before .before .before in
-    omega (arith, q-is powered, pow-mono (start powered .pre .0 .first .h-most))
+    omega (arith, q-is powered, pow-mono (start powered .pre .0 .h-most))
 
 both-requires-2 : tie.Need-both-requires-2 Inv-loop μ-loop
 both-requires-2 c κs = search needs

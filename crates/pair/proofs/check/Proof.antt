@@ -122,7 +122,7 @@ enum-told-2 : tie.Need-enum-told-2
 enum-told-2 c = search needs
 
 all-shifts-requires : tie.Need-all-shifts-requires
-all-shifts-requires c κs = pair-words _ _ _ _ _ (sized (past (told c))) (first-good (told c)) (second-good c)
+all-shifts-requires c κs = pair-words _ _ _ _ _ (sized (past (told c)))
 
 -- what the counts say is the answer
 answered : (c : tie.After-all-shifts) → let args = entry (past (told (c .before))) .args in

@@ -6,7 +6,7 @@ use native.Mathlib.Omega.{arith}
 use mathlib.Core.Path.{_≡_, sym, _∙_}
 use mathlib.Core.Logic.{⊎-elim}
 use lib.ListN.{length}
-use lib.Pow.{pow-pos, pow-mono}
+use lib.Pow.{pow-pos}
 use denote.Ref.{now}
 use borrow.Author.Needs.{needs}
 use Rattle.rules.specs.Shape.{phases}
@@ -29,7 +29,7 @@ power-requires c κs = search needs
 
 -- q is 2^h, at least 1
 q-is : (c : tie.After-power Inv-loop μ-loop) → c .power .result ≡ phases (c .before .before .args .h)
-q-is c = c .power .ensures ∙ power-is _ (omega (arith, c .before .before .pre .0 .h-most))
+q-is c = c .power .ensures ∙ power-is _ (omega (arith, c .before .before .pre .0))
 
 q-least : (c : tie.After-power Inv-loop μ-loop) → 1 ≤ c .power .result
 q-least c = rw (q-is c) (pow-pos _)
@@ -68,11 +68,8 @@ loop-again : tie.Need-loop-again Inv-loop μ-loop
 loop-again c =
     let at-loop = c .before .before .before .before .before in
     let turn = q-is (at-loop .before) in
-    let below = at-loop .before .before .before .pre .0 in
     let inv = at-loop .loop .inv in
-    -- the symbols are below 2^h, so that `minus` is the difference modulo it
-    let is = c .before .minus .ensures (q-least (at-loop .before)) (omega (arith, turn, pow-mono (below .h-most)))
-    (omega (arith, turn, below .symbols (at-loop .loop .j) (omega arith))) in (
+    let is = c .before .minus .ensures in (
       omega arith,
       omega arith,
       ⊎-elim

@@ -11,7 +11,7 @@ use borrow.Author.Needs.{needs}
 use Rattle.rules.specs.Shape.{phases}
 use Rattle.rules.specs.Word.{symbolAt}
 use Rattle.rules.specs.Pair.{minus}
-use Rattle.rules.proofs.Range.{InRange, inShape-range, phases-least, phases-most}
+use Rattle.rules.proofs.Range.{InRange, inShape-range, phases-most}
 use Rattle.shape.proofs.Powers.{power-is, power-phases}
 use Rattle.places.proofs.Digits.{one-lt}
 use Rattle.reader.specs.Shown.{shown, shownUpTo, lowOf}
@@ -35,15 +35,12 @@ at-loop c = c .before .before
 power-requires : tie.Need-power-requires Inv-loop μ-loop
 power-requires c κs = search needs
 
--- q is 2^h, from 2 to 8
+-- q is 2^h, at most 8
 ranged : (c : tie.After-power Inv-loop μ-loop) → InRange (start c .args .h) (start c .args .m)
 ranged c = inShape-range _ _ (start c .pre .shape)
 
 base : (c : tie.After-power Inv-loop μ-loop) → c .power .result ≡ phases (start c .args .h)
 base c = c .power .ensures ∙ power-phases (start c .args .h) (start c .args .m) (start c .pre .shape)
-
-base-least : (c : tie.After-power Inv-loop μ-loop) → 2 ≤ c .power .result
-base-least c = omega (arith, base c, phases-least _ _ (ranged c))
 
 base-most : (c : tie.After-power Inv-loop μ-loop) → c .power .result ≤ 8
 base-most c = omega (arith, base c, phases-most _ _ (ranged c))
@@ -114,8 +111,7 @@ unfolding shown
 taken c =
     let at-power = at-loop (at-place c) .before in
     let w = now (start at-power .args .word) in
-    c .minus .ensures (omega (arith, base-least at-power)) (omega (arith, base-most at-power))
-    (omega (arith, base at-power, first-small at-power))
+    c .minus .ensures
     ∙ ap₂ (λ (q i : ℕ). minus q (symbolAt w i) (symbolAt w 0)) (base at-power) (place (at-place c))
 
 add-number : tie.Need-add-number Inv-loop μ-loop
