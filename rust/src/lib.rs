@@ -137,13 +137,13 @@ pub fn hard(h: u32, m: u32, word: &[u8]) -> Result<Closest, Refusal> {
     refusal::answer(kind, place, Closest { message: Message(message), distance, tied })
 }
 
-/// The spectrum of the first N entries of the first area, as a part of the area that holds it and no copy: of the first
-/// for even m, of the second for odd m. The other area then holds what stood before the last stage, and entries from N
-/// on stay in both.
+/// The spectrum of the first N entries of the first area, as a shared part of the area that holds it and no copy: of
+/// the first for even m, of the second for odd m. The other area then holds what stood before the last stage, and
+/// entries from N on stay in both.
 ///
 /// Refuses an m out of range, an area shorter than N, and one of those N entries outside -32,768..32,767, with the
 /// first such place, in this order; both areas then stay as they were.
-pub fn transform<'a>(m: u32, first: &'a mut [i32], second: &'a mut [i32]) -> Result<&'a mut [i32], Refusal> {
+pub fn transform<'a>(m: u32, first: &'a mut [i32], second: &'a mut [i32]) -> Result<&'a [i32], Refusal> {
     let (mut area, mut place) = (0, 0);
     // SAFETY: each pointer leads to as many entries as are said, or to a cell of this function; no `&mut` overlaps.
     let kind = unsafe {
@@ -153,7 +153,7 @@ pub fn transform<'a>(m: u32, first: &'a mut [i32], second: &'a mut [i32]) -> Res
     };
     refusal::answer(kind, place, ())?;
     let holder = if area == 1 { first } else { second };
-    Ok(&mut holder[..1 << m])
+    Ok(&holder[..1 << m])
 }
 
 /// The refusal that [`transform`] gives on these areas as they stand, if it gives one.

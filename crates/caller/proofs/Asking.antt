@@ -6,7 +6,7 @@
 --     Answered m xs ys v k    `other` has returned v, which is the number k, of areas that hold xs and ys
 --     other-over       what `other` leaves ∗ Shared ν  ⊢ ⇛ ∃ k. Both xs ys, and Answered holds of k
 -- The areas are held as `transform` left them, at lists as long as those that were passed: Both is in Parting.antt. The
--- loan is in Sharing.antt; the same of one slice in Reading.antt.  Assumes `Given`.
+-- loan is in Sharing.antt; the call with the part is in Reading.antt.  Assumes `Given`.
 use Prim.Native.Nat.{ℕ, _<_, _^_}
 use mathlib.Core.Path.{_≡_, refl}
 use mathlib.Core.Bool.{cond}
@@ -39,8 +39,7 @@ use Rattle.range.specs.Signed.{entry}
 use Rattle.rules.specs.Areas.{inFirst}
 use Rattle.transform.proofs.Again.{under}
 use Rattle.transform.proofs.Calling.{vals, passed}
-use Rattle.caller.proofs.Back.{Had}
-use Rattle.caller.proofs.Sharing.{Shr, KeptS, shares, shared-back}
+use Rattle.caller.proofs.Sharing.{Had, Shr, KeptS, shares, shared-back}
 use Rattle.caller.proofs.other as other
 use Rattle.caller.proofs.Parting.{Both}
 

@@ -60,13 +60,13 @@ out z k = vstruct (vcons (vint w32 (ofZ w32 z)) (vcons (vint w32 (ofZ w32 k)) vn
 
 module _ {M : Type 1} (𝓤 : URA M) (H : Heap 𝓤) (A : Atoms 𝓤) (κ₀ κ₁ : Lft) (q₀ q₁ : Share) (m : ℕ)
     (x y : RefT (List ℤ)) where
-  abbrev Areas : List ℤ → List ℤ → SProp 𝓤
-  Areas = Both κ₀ κ₁ q₀ q₁ x y 𝓤 H A
+  abbrev Have : List ℤ → List ℤ → SProp 𝓤
+  Have = Both κ₀ κ₁ q₀ q₁ x y 𝓤 H A
 
   abbrev pub Entered : SProp 𝓤
   Entered = onEntry 𝓤 H A look.signature (κ₀, (κ₁, tt)) (q₀, (q₁, tt)) (m, (x, (y, tt))) (vals m x y)
 
-  pub opened : Given 𝓤 H A → ent 𝓤 Entered (Areas (x .now) (y .now))
+  pub opened : Given 𝓤 H A → ent 𝓤 Entered (Have (x .now) (y .now))
   opened W =
       qed W ((‵ (flft κ₀ q₀) ⊛ ‵ (flft κ₁ q₁) ⊛ ‵ ftrue) ∷
       ‵ (owns (u32 ∷ MutSlice (named 0) κ₀ i32 ∷ MutSlice (named 1) κ₁ i32 ∷ []) (m, (x, (y, tt))) (vals m x y)) ∷ []) ∵
@@ -83,7 +83,7 @@ module _ {M : Type 1} (𝓤 : URA M) (H : Heap 𝓤) (A : Atoms 𝓤) (κ₀ κ�
 
     pub exits : Given 𝓤 H A → m < 2 ^ 32 → (z k : ℤ) (v u : Val) → Is i32 z (v ∷ []) → Is i32 k (u ∷ []) →
         (xs ys : List ℤ) → length xs ≡ length (x .now) → length ys ≡ length (y .now) →
-        Seen m (x .now) (y .now) (ends z k) xs ys → ent 𝓤 (Areas xs ys) (Post (out z k))
+        Seen m (x .now) (y .now) (ends z k) xs ys → ent 𝓤 (Have xs ys) (Post (out z k))
     exits W m-fits z k v u is-z is-k xs ys lx ly said =
         qed W (((‵ (Own κ₀ i32 (at-last x xs)) ⊛ ‵ (flft κ₀ q₀)) ⊛ (‵ (Own κ₁ i32 (at-last y ys)) ⊛ ‵ (flft κ₁ q₁))) ∷
         []) ∵

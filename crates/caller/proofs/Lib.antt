@@ -1,8 +1,7 @@
--- Laws of the caller: areas that were lent come back, of each what is known of it; what is seen; then the calls of
--- `look`, to `transform`, `front` and `other`, and its entry and exit.
-pub mod Back
-pub mod Sharing
+-- Laws of the caller: what is seen; an area that is lent as a shared one; then the calls of `look`, to `transform`,
+-- `front` and `other`, and its entry and exit.
 pub mod SeenLaws
+pub mod Sharing
 pub mod Parting
 pub mod Reading
 pub mod Asking

@@ -66,17 +66,14 @@ fn tell_call(call: Call, m: u32, first: &mut [i32], second: &mut [i32]) {
     }
 }
 
-// The part, or why there is none. Then 77 at the front of a part that is not empty: the areas show where it stands.
-fn tell_part(judged: Judged, part: &mut [i32]) {
+// The part, or why there is none.
+fn tell_part(judged: Judged, part: &[i32]) {
     match judged {
         Judged::Allowed => {
             say(b"part ");
             area(part);
         }
         Judged::Refused(kind) => refusal(kind),
-    }
-    if 0 < part.len() {
-        part[0] = 77;
     }
 }
 

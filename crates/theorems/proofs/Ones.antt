@@ -1,6 +1,6 @@
 -- Only one outcome, answer and slices, keeps the promise of each call. In order: an answer that is determined, beside
 -- one slice that stays, and beside two; the calls that only read; encode and partner; `run`.
--- Not here: the laws of the answers (each call's own crate), the transform (its crate, Unique and RemainsLaws).
+-- Not here: the laws of the answers (each call's own crate), the transform (its crate, Unique).
 -- Assumes nothing.
 use Prim.Native.Nat.{ℕ}
 use mathlib.Core.Path.{_≡_, sym, _∙_}

@@ -8,8 +8,7 @@ use Rattle.rules.proofs.Messages.{labelOf-lt, labelOf-inj}
 use Rattle.words.proofs.Partners.{partnerOf-not-wordOf}
 use Rattle.golay.proofs.Autocorrelations.{cancel-iff-counts}
 use Rattle.distances.proofs.Apart.{hamming-apart, lee-apart}
-use Rattle.transform.proofs.Unique.{handed-unique}
-use Rattle.transform.proofs.RemainsLaws.{remains-unique}
+use Rattle.transform.proofs.Unique.{handed-unique, atLast-unique}
 use Rattle.decoder.proofs.Outcomes.{hears-found, matches-found}
 use Rattle.theorems.specs.Theorems.{Theorems}
 use Rattle.theorems.proofs.Slices.{sent-writes}
@@ -52,7 +51,7 @@ theorems = record {
   refusal-one = refusal-one;
   run-one = run-one;
   transform-one = λ m x y r s. handed-unique;
-  remains-one = remains-unique;
+  areas-one = atLast-unique;
   soft-answers = λ h m ys r e hears. hears-found h m ys r hears e;
   hard-answers = λ h m w r e matches. matches-found h m w r matches e;
   soft-greatest = λ h m ys a hears. hears .greatest;

@@ -1,13 +1,13 @@
 -- The index of theorems: what the words and the calls of document 01 guarantee, for every shape and every input. In
 -- order: 1 Golay pairs; 2 the counts are 001's condition; 3 distances; 4 damage; 5 round trips; 6 one outcome for each
 -- call, and the shams; 7 peak power.
--- A claim about a call is one about its contract: `Sent`, `Matches`, `Hears`, `Ran`, `Handed`, `Remains` and the
+-- A claim about a call is one about its contract: `Sent`, `Matches`, `Hears`, `Ran`, `Handed`, `AtLast` and the
 -- equations of what is told are what the calls ensure. `hardRefusal h m w ≡ allowed` says that hard decoding refuses
 -- nothing: a shape of two or four phases in range, N symbols, each below 2^h. An answer told as `gives (g, d, false)`
 -- is message g, with distance or correlation d, not tied. The words of the claims: rules Pair (`GolayPair`,
 -- `pairCount`), Autocorrelation (`autocorrelation`, `Cancel`), Distance (`hamming`, `lee`), Soft (`clean`), Best
 -- (`Greatest`, `Nearest`), Envelope (`envelopePower`); reader's Shown (`Word`: N symbols in range, of a shape in
--- range); transform's Remains (`RemainsOf`, of which the promised `Remains` is one case, and `SameBeside`).
+-- range); transform's Told (`AtLastOf`: what two areas hold at last; the promised `AtLast` is one case).
 -- Defines:  word h m g, partner h m g    the word and the partner of message g, as functions of the place
 --           Encodes h m g d w     encode of message g writes, and leaves w in the slice that held d
 --           Partners h m g d w    the same of partner
@@ -16,7 +16,7 @@
 -- Proved in proofs/Proved.antt, each from the laws of its subject.  Assumes nothing: these are definitions.
 use Prim.Native.Nat.{ℕ, _+_, _-_, _*_, _^_, _≤_, _<_}
 use mathlib.Core.Path.{_≡_}
-use mathlib.Core.Bool.{Bool, true, false}
+use mathlib.Core.Bool.{true, false}
 use mathlib.Core.List.{List}
 use mathlib.Core.Logic.{_≢_, _↔_}
 use lib.Dec.{eqb}
@@ -52,8 +52,7 @@ use Rattle.reader.specs.declared.Reading.{Reading}
 use Rattle.reader.specs.Told.{readingTold}
 use Rattle.reader.specs.Shown.{Word}
 use Rattle.transform.specs.declared.Judged.{Judged}
-use Rattle.transform.specs.Told.{judgedTold, Ran, Handed}
-use Rattle.transform.specs.Remains.{RemainsOf, SameBeside}
+use Rattle.transform.specs.Told.{judgedTold, Ran, Handed, AtLastOf}
 use Rattle.decoder.specs.declared.Loudest.{Loudest}
 use Rattle.decoder.specs.declared.Closest.{Closest}
 use Rattle.decoder.specs.declared.Heard.{Heard}
@@ -128,8 +127,7 @@ pub record Theorems : Type 2 where
   pub soft-back : (h m g a : ℕ) (d w : List ℕ) (r : Heard) → h ≤ 2 → 1 ≤ a → Encodes h m g d w →
       Hears h m (clean h m a w) r → heardTold r ≡ gives (g, pos (carriers m * a), false)
   pub clean-fits : (h m a : ℕ) (w : List ℕ) → a ≤ 32767 → (j : ℕ) → natAbs (entry (clean h m a w) j) ≤ 32767
-  -- 6. ONE OUTCOME. What each call answers, and what every slice and area holds afterwards, is determined, but for the
-  -- one exception that docs/PROMISES.md argues: the entries under a transform's part, once the part is over.
+  -- 6. ONE OUTCOME. What each call answers, and what every slice and area holds afterwards, is determined.
   pub encode-one : (h m g : ℕ) (d : List ℕ) →
       OneOutcome (λ (o : Written × List ℕ). Sent h m g (wordOf h m g) d (o .0) (o .1))
   pub partner-one : (h m g : ℕ) (d : List ℕ) →
@@ -143,14 +141,13 @@ pub record Theorems : Type 2 where
   pub refusal-one : (m : ℕ) (a b : List ℤ) → OneOutcome (λ (o : Judged × List ℤ × List ℤ).
       (judgedTold (o .0) ≡ transformRefusal m a (length b)) × (o .1 ≡ a) × (o .2 ≡ b))
   pub run-one : (m : ℕ) (a b : List ℤ) → OneOutcome (λ (o : ℕ × List ℤ × List ℤ). Ran m a b (o .0) (o .1) (o .2))
-  -- The transform's part, in contents and place; and, in the terms of the logic, what remains of the areas beside it:
-  -- no two endings of one area can be promised.
+  -- The transform's part, in contents and place; and, in the terms of the logic, what both areas hold at last, whole:
+  -- no two endings of the same two areas can be promised.
   pub transform-one : (m : ℕ) (x y r s : RefT (List ℤ)) → Handed m x y r → Handed m x y s →
       (now r ≡ now s) × (ptr r ≡ ptr s)
-  pub remains-one : {M : Type 1} (𝓤 : URA M) (H : Heap 𝓤) (A : Atoms 𝓤) → Given 𝓤 H A → (t : Bool) (n : ℕ)
-      (x y : RefT (List ℤ)) (a b c d : List ℤ) →
-      ent 𝓤 (sep 𝓤 (sem 𝓤 H A (RemainsOf t n x y a b)) (sem 𝓤 H A (RemainsOf t n x y c d)))
-      (fact 𝓤 (SameBeside t n a b c d))
+  pub areas-one : {M : Type 1} (𝓤 : URA M) (H : Heap 𝓤) (A : Atoms 𝓤) → Given 𝓤 H A → (x y : RefT (List ℤ))
+      (a b c d : List ℤ) →
+      ent 𝓤 (sep 𝓤 (sem 𝓤 H A (AtLastOf x y a b)) (sem 𝓤 H A (AtLastOf x y c d))) (fact 𝓤 ((a ≡ c) × (b ≡ d)))
   -- SHAMS of 01, said outright. A decoder refuses nothing but what the table says.
   pub soft-answers : (h m : ℕ) (ys : List ℤ) (r : Heard) → softRefusal h m ys ≡ allowed → Hears h m ys r →
       (a : Loudest) × (r ≡ Heard·Found a)

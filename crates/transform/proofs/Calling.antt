@@ -39,11 +39,12 @@ use Rattle.transform.specs.Told.{Ran}
 use Rattle.transform.proofs.Again.{Own, under, Kept, Lent, lends-both, both-back}
 use Rattle.transform.proofs.run as run
 
-abbrev Areas : Type 0
-Areas = ℕ × (RefT (List ℤ) × (RefT (List ℤ) × Unit {0}))
+-- what `run` is passed
+abbrev Args : Type 0
+Args = ℕ × (RefT (List ℤ) × (RefT (List ℤ) × Unit {0}))
 
 module _ (m : ℕ) (x y : RefT (List ℤ)) where
-  abbrev pub passed : GName × GName → Areas
+  abbrev pub passed : GName × GName → Args
   passed g = (m, (under x (g .0), (under y (g .1), tt)))
 
   abbrev pub vals : List Val × (List Val × (List Val × Unit {0}))

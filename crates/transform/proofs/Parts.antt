@@ -1,7 +1,7 @@
 -- What the areas hold at the end, and the part: rules' Areas. In order: lengths; the part as the front of an area, in
 -- which area it stands; what the last stage leaves is what the rules say; the promise of `run`, refused and not.
 -- Not here: the stages before the last (Stages); that only one outcome keeps a promise (Unique).  Assumes nothing.
-use Prim.Native.Nat.{ℕ, zero, suc, _+_, _-_, _*_, _/_, _%_, _≤_, zero-le}
+use Prim.Native.Nat.{ℕ, zero, suc, _+_, _-_, _*_, _/_, _%_, _≤_}
 use native.Mathlib.Omega.{arith}
 use mathlib.Core.Path.{_≡_, refl, sym, _∙_, ap}
 use mathlib.Core.Logic.{_≢_}
@@ -38,32 +38,19 @@ module _ (m : ℕ) (a b : List ℤ) where
   abbrev inTheSecond : Bool → ℕ → ℤ
   inTheSecond t = cond t (stages m (m - 1) (entry a)) (spectrumAt m (entry a))
 
-  -- an area that has N entries where nothing is refused keeps its length, and the part fits into it
-  module _ (area : List ℤ) (h : outcome ≡ allowed → carriers m ≤ length area) where
-    length-leaves : (f : ℕ → ℤ) (o : Outcome (Unit {0})) → outcome ≡ o →
-        length (leaves o area (filled (carriers m) f area)) ≡ length area
-    length-leaves f (gives u) e = length-filled (carriers m) f area (h e)
-    length-leaves f (refuses k v) e = refl
-
-    le-leaves : (o : Outcome (Unit {0})) → outcome ≡ o → leaves o 0 (carriers m) ≤ length area
-    le-leaves (gives u) e = h e
-    le-leaves (refuses k v) e = zero-le
+  -- an area that has N entries where nothing is refused keeps its length
+  length-leaves : (area : List ℤ) (f : ℕ → ℤ) → (outcome ≡ allowed → carriers m ≤ length area) →
+      (o : Outcome (Unit {0})) → outcome ≡ o → length (leaves o area (filled (carriers m) f area)) ≡ length area
+  length-leaves area f h (gives u) e = length-filled (carriers m) f area (h e)
+  length-leaves area f h (refuses k v) e = refl
 
   pub length-firstAfter : length (firstAfter m a b) ≡ length a
   unfolding firstAfter
-  length-firstAfter = length-leaves a (λ e. refusal-taken m a b e .first) (inTheFirst (inFirst m)) outcome refl
+  length-firstAfter = length-leaves a (inTheFirst (inFirst m)) (λ e. refusal-taken m a b e .first) outcome refl
 
   pub length-secondAfter : length (secondAfter m a b) ≡ length b
   unfolding secondAfter
-  length-secondAfter = length-leaves b (λ e. refusal-taken m a b e .second) (inTheSecond (inFirst m)) outcome refl
-
-  pub partLength-le-first : partLength m a b ≤ length a
-  unfolding partLength
-  partLength-le-first = le-leaves a (λ e. refusal-taken m a b e .first) outcome refl
-
-  pub partLength-le-second : partLength m a b ≤ length b
-  unfolding partLength
-  partLength-le-second = le-leaves b (λ e. refusal-taken m a b e .second) outcome refl
+  length-secondAfter = length-leaves b (inTheSecond (inFirst m)) (λ e. refusal-taken m a b e .second) outcome refl
 
   pub length-partOf : length (partOf m a b) ≡ partLength m a b
   unfolding partOf partLength

@@ -4,8 +4,8 @@
 // Refusals in their order: 1 an m out of range, 2 an area shorter than N, 7 an input out of range, with the first bad
 // place. A refused transform changes nothing, and hands back the empty part at the front of the first area; `refusal`
 // says which refusal it is.
-// Contracts cite rules, specs/Areas.antt and Spectrum.antt; of this crate specs/Told.antt, Remains.antt (what remains
-// of the areas beside the part) and, for the steps, Steps.antt.
+// Contracts cite rules, specs/Areas.antt and Spectrum.antt; of this crate specs/Told.antt and, for the steps,
+// Steps.antt.
 use kinds::Place;
 use kinds::Refusal;
 use kinds::Search;
@@ -23,8 +23,7 @@ ghost use Rattle.rules.specs.Shape.{carriers};
 ghost use Rattle.rules.specs.Spectrum.{accepted};
 ghost use Rattle.rules.specs.Refusal.{transformRefusal};
 ghost use Rattle.kinds.specs.Told.{searchTold};
-ghost use Rattle.transform.specs.Told.{judgedTold, Ran, Handed};
-ghost use Rattle.transform.specs.Remains.{Remains};
+ghost use Rattle.transform.specs.Told.{judgedTold, Ran, Handed, AtLast};
 ghost use Rattle.transform.specs.Steps.{butterfly, firstAt, secondAt, Readable, Block, Taken};
 
 // The least and the greatest input that is taken.
@@ -44,20 +43,20 @@ pub enum Judged {
 // of the second for odd m. The other area then holds what stood after stage m - 1, and entries from N on stay in both.
 // Refuses 1 an m out of range, 2 an area shorter than N, 7 one of the first N entries of the first area out of range.
 // Where it is refused nothing changes, and the part is the empty one at the front of the first area.
-// Left of the ∗ stands what remains of the areas beside the part, right of it what the part is. What the entries under
-// the part hold once the part is over is not promised (docs/PROMISES.md, Exceptions); `run` serves who needs that.
-pub fn transform<'a>(m: u32, first: &'a mut [i32], second: &'a mut [i32]) -> &'a mut [i32]
-    ensures { λ r. sem 𝓤 H A (Remains m (first .entry) (second .entry))
+// The part can only be read, so what the areas hold when it is over is known at the return. Left of the ∗ stands what
+// both areas hold at last, whole; right of it what the part holds and where it stands.
+pub fn transform<'a>(m: u32, first: &'a mut [i32], second: &'a mut [i32]) -> &'a [i32]
+    ensures { λ r. sem 𝓤 H A (AtLast m (first .entry) (second .entry))
         ∗ ⌜ Handed m (first .entry) (second .entry) r ⌝ }
 {
     let n = run(m, first, second);
     if n == 0 {
-        return &mut first[..n];
+        return &first[..n];
     }
     if m % 2 == 0 {
-        return &mut first[..n];
+        return &first[..n];
     }
-    &mut second[..n]
+    &second[..n]
 }
 
 // The refusal that the transform gives on these areas as they stand, if it gives one: 1 an m out of range, 2 an area

@@ -73,14 +73,9 @@ fn checked(given: &mut Given) -> Option<String> {
     Some(pair(h, m, &first, &second).map_or_else(refused, yes_or_no))
 }
 
-/// After the part is read, 77 is stored at its front, so that the areas show where it stands.
 fn transformed(m: u32, first: Vec<i32>, second: Vec<i32>) -> String {
     match transform(m, &first, &second) {
-        Ok(mut after) => {
-            let holder = if after.in_first { &mut after.first } else { &mut after.second };
-            holder[0] = 77;
-            format!("part {} {}", list_text(&after.part), areas_text(&after.first, &after.second))
-        }
+        Ok(after) => format!("part {} {}", list_text(&after.part), areas_text(&after.first, &after.second)),
         Err(no) => format!("{} {}", refused(no), areas_text(&first, &second)),
     }
 }

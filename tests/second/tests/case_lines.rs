@@ -16,7 +16,7 @@ fn written_examples() {
         ("hard 1 4 [1001001000011101]", "message 0 distance 1 not tied"),
         ("soft 1 2 [-32768 -32768 -32768 -32768]", "message 1 correlation 65536 tied"),
         ("soft 3 2 []", "refused 6"),
-        ("transform 2 [1 2 3 4] [0 0 0 0]", "part [10 -2 -4 0] areas [77 -2 -4 0] [4 6 -2 -2]"),
+        ("transform 2 [1 2 3 4] [0 0 0 0]", "part [10 -2 -4 0] areas [10 -2 -4 0] [4 6 -2 -2]"),
         ("run 2 [1 2 3 4] [0 0 0 0]", "4 areas [10 -2 -4 0] [4 6 -2 -2]"),
         ("look 2 [1 2 3 4] [0 0 0 0]", "10 and 4 areas [10 -2 -4 0] [4 6 -2 -2]"),
         ("transform 2 [1 2 3 32768] [5]", "refused 2 areas [1 2 3 32768] [5]"),
@@ -36,7 +36,7 @@ fn written_examples() {
 #[test]
 fn the_spectrum_of_odd_m_stands_in_the_second_area() {
     let line = "transform 3 [0 0 0 0 0 0 1 0 5] [9 9 9 9 9 9 9 9 6]";
-    let expected = "part [1 1 -1 -1 -1 -1 1 1] areas [1 0 -1 0 -1 0 1 0 5] [77 1 -1 -1 -1 -1 1 1 6]";
+    let expected = "part [1 1 -1 -1 -1 -1 1 1] areas [1 0 -1 0 -1 0 1 0 5] [1 1 -1 -1 -1 -1 1 1 6]";
     assert_eq!(answer(line), expected);
 }
 

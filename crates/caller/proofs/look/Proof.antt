@@ -1,7 +1,7 @@
 -- `caller::look` meets its contract: a walk of its MIR, by hand. Both areas are lent again to `transform`, for a
--- lifetime that is made for the part; once `front` has read the part that lifetime ends, and both areas are back, of
--- which is known what `transform` promised of them. What needs no machine is beside this file: entry and exit in
--- Edges.antt; the three calls in Parting.antt, Reading.antt and Asking.antt.
+-- lifetime that is made for the part; once `front` has read the part that lifetime ends, and both areas are back at the
+-- lists that `transform` promised. What needs no machine is beside this file: entry and exit in Edges.antt; the three
+-- calls in Parting.antt, Reading.antt and Asking.antt.
 --     walk             the body, from what is had on entry to what is asked on exit
 --     look-walks, look-meets, look-spec    so it meets its contract, in the forms that the kit asks for
 -- All that it knows of its callees is that they meet their contracts.
@@ -25,7 +25,7 @@ use ghost.Atoms.{Atoms}
 use contract.Monad.{Fun}
 use contract.Running.{givenOf, tables, tablesOf}
 use types.Kit.{Given, ‵, raw, given, _⊛_, some, later, _$_, _∵_, !, qed, by, move, use1, use2, use3, split, pick}
-use types.Kit.{learn, drop, await}
+use types.Kit.{learn, await}
 use types.Run.{look as looks, init, stop, from, and-then, no-more, assigns, land, returns, enter, params1}
 use types.Run.{pass1, pass0, free0}
 use types.Part.{agg}
@@ -34,7 +34,7 @@ use denote.Plain.{uint-vals, uint-tells}
 use denote.Signed.{sint-lawful}
 use denote.Builtin.{u32, i32}
 use denote.Ref.{RefT, at-last}
-use denote.Slice.{sliceVal, slice-vals, Room, mut-slice-tells, mut-slice-lawful}
+use denote.Slice.{sliceVal, slice-vals, Room, mut-slice-tells, shr-slice-lawful}
 use denote.Steps.{only}
 use denote.Exit.{yes}
 use denote.Signature.{plain}
@@ -44,15 +44,14 @@ use denote.Triple.Call.{calls-at}
 use denote.Triple.Table.{entered, cited}
 use denote.Triple.Walked.{goes-none, goes-slice, Walks, walked, walk-meets}
 use Rattle.range.specs.Signed.{entry}
-use Rattle.transform.proofs.Again.{Own}
+use Rattle.rules.specs.Areas.{firstAfter, secondAfter}
+use Rattle.transform.proofs.Parts.{length-firstAfter, length-secondAfter}
 use Rattle.transform.proofs.Walking.{to-end, becomes, copies, reborrows, allocates, frees-held, sized}
 use Rattle.transform.proofs.transform.Symbol as transform-def
 use Rattle.transform.proofs.transform.Symbol.{name as #transform·transform}
 use Rattle.transform.proofs.transform.Met as transform-thm
-use Rattle.caller.specs.Seen.{After}
-use Rattle.caller.proofs.Back.{Had}
-use Rattle.caller.proofs.Sharing.{KeptS}
-use Rattle.caller.proofs.Parting.{Transform, Both, Meanwhile, Beside, Handing, given-transform, lent, parted}
+use Rattle.caller.proofs.Sharing.{HadShr}
+use Rattle.caller.proofs.Parting.{Transform, Both, Meanwhile, Known, Handing, given-transform, lent, parted}
 use Rattle.caller.proofs.Parting.{over}
 use Rattle.caller.proofs.Reading.{Front, Fronted, given-front, to-front, front-over}
 use Rattle.caller.proofs.Asking.{Other, Answered, Shared, given-other, to-other, other-over}
@@ -70,8 +69,15 @@ use Rattle.caller.proofs.look.Code as code
 
 module _ {M : Type 1} (𝓤 : URA M) (H : Heap 𝓤) (A : Atoms 𝓤) (W : Given 𝓤 H A) (mem : Memory → SProp 𝓤)
     (go : Routine → Fun 𝓤) (κ₀ κ₁ : Lft) (q₀ q₁ : Share) (m : ℕ) (x y : RefT (List ℤ)) (m-fits : m < 2 ^ 32) where
-  abbrev Areas : List ℤ → List ℤ → SProp 𝓤
-  Areas = Both κ₀ κ₁ q₀ q₁ x y 𝓤 H A
+  abbrev Have : List ℤ → List ℤ → SProp 𝓤
+  Have = Both κ₀ κ₁ q₀ q₁ x y 𝓤 H A
+
+  -- what the areas hold by the rules, once the part is over
+  abbrev a′ : List ℤ
+  a′ = firstAfter m (x .now) (y .now)
+
+  abbrev b′ : List ℤ
+  b′ = secondAfter m (x .now) (y .now)
 
   abbrev Start : SProp 𝓤
   Start = Entered 𝓤 H A κ₀ κ₁ q₀ q₁ m x y
@@ -80,11 +86,11 @@ module _ {M : Type 1} (𝓤 : URA M) (H : Heap 𝓤) (A : Atoms 𝓤) (W : Given
   abbrev to-transform : ℕ → GName × GName → Transform 𝓤 H A mem go .Ghost
   to-transform = given-transform 𝓤 H A mem go W κ₀ κ₁ q₀ q₁ m x y
 
-  abbrev to-read : ℕ → RefT (List ℤ) → ℕ → GName → Front 𝓤 H A mem go .Ghost
+  abbrev to-read : ℕ → RefT (List ℤ) → Front 𝓤 H A mem go .Ghost
   to-read ν = given-front 𝓤 H A mem go W (ν ∷ []) fullShare
 
-  abbrev to-ask : List ℤ × List ℤ → ℕ → GName × GName → Other 𝓤 H A mem go .Ghost
-  to-ask s = given-other 𝓤 H A mem go W κ₀ κ₁ q₀ q₁ m x y (s .0) (s .1)
+  abbrev to-ask : ℕ → GName × GName → Other 𝓤 H A mem go .Ghost
+  to-ask = given-other 𝓤 H A mem go W κ₀ κ₁ q₀ q₁ m x y a′ b′
 
   module _ (C : Calls 𝓤 H) (Λ : Loops 𝓤 H) (fm : FmC 𝓤 H (W .laws) C)
       (known-transform : Triple 𝓤 (C #transform·transform) (Transform 𝓤 H A mem go))
@@ -95,57 +101,48 @@ module _ {M : Type 1} (𝓤 : URA M) (H : Heap 𝓤) (A : Atoms 𝓤) (W : Given
         sliceVal (y .ptr) (length (y .now)) ∷ []) (Post 𝓤 H A κ₀ κ₁ q₀ q₁ m x y mem go))
     walk roomy roomy′ =
         qed W (raw Start ∷ []) ∵
-        use1 W (raw (Areas (x .now) (y .now))) (opened 𝓤 H A κ₀ κ₁ q₀ q₁ m x y W) $
+        use1 W (raw (Have (x .now) (y .now))) (opened 𝓤 H A κ₀ κ₁ q₀ q₁ m x y W) $
         enter ! C Λ code.function _ _ $ allocates ! (λ _. to-end ! $
-        -- from here on local i stands at 2 · i, and what is had besides from 34 on, behind them all
+        -- from here on local i stands at 2 · i, and what is had besides from 30 on, behind them all
         params1 ! $ pass1 ! (init ! 2 refl (tt, record { fits = m-fits })) $
         pass1 ! (init ! 4 refl (sized (roomy .0))) $ pass1 ! (init ! 6 refl (sized (roomy′ .0))) $ pass0 ! $
         -- `let part = transform::transform(m, first, second)`: for a call the context has two entries in front
         reborrows ! refl 4 refl (init ! 14 refl (tt, tt)) (copies ! 14 refl) refl (init ! 16 refl (sized (roomy .0))) $
         reborrows ! refl 6 refl (init ! 18 refl (tt, tt)) (copies ! 18 refl) refl (init ! 20 refl (sized (roomy′ .0))) $
-        move ! (34 ∷ []) $ use1 W (later (some (λ (ν : ℕ). some (λ (g : GName × GName).
+        move ! (30 ∷ []) $ use1 W (later (some (λ (ν : ℕ). some (λ (g : GName × GName).
         raw (Transform 𝓤 H A mem go .pre (to-transform ν g)) ⊛ ‵ (Meanwhile κ₀ κ₁ q₀ q₁ x y ν g)))))
         (lent 𝓤 H A mem go W κ₀ κ₁ q₀ q₁ m x y m-fits) $ await ! tt $ pick ! (λ ν. pick ! (λ g. split ! $
         calls-at ! fm (Transform 𝓤 H A mem go) known-transform (to-transform ν g)
         (and-then ! (copies ! 4 refl) (and-then ! (copies ! 18 refl) (and-then ! (copies ! 22 refl) (no-more !)))) (λ w.
         use1 W (later (some (λ (r : RefT (List ℤ)). given (Handing m x y ν w r)
-        (raw (Had 𝓤 H A i32 (ν ∷ []) fullShare r (r .now)) ⊛ ‵ (Beside m x y g)))))
+        (raw (HadShr 𝓤 H A i32 (ν ∷ []) fullShare r) ⊛ ‵ (Known m x y g)))))
         (parted 𝓤 H A mem go W κ₀ κ₁ q₀ q₁ m x y ν g w) $ await ! tt $ pick ! (λ r. learn ! (λ handing. split ! $
-        -- [the part; what is left beside it; what is kept of the areas; the locals]
+        -- [the part; what is known of the areas; what is kept of them; the locals]
         to-end ! $ to-end ! $ to-end ! $
         land ! (from ! (stop !)) (init ! 8 refl
-        (mut-slice-lawful 𝓤 H A W erased (ν ∷ []) i32 .typed r (w ∷ []) (handing .0) .0)) $
+        (shr-slice-lawful 𝓤 H A W erased (ν ∷ []) i32 .typed r (w ∷ []) (handing .0) .0)) $
         becomes ! 8 refl (ap only (handing .0 .0 .0)) $
-        -- `let total = front(part)`, after which the part is over
-        reborrows ! refl 8 refl (init ! 22 refl (tt, tt)) (copies ! 22 refl) refl
-        (init ! 24 refl (sized (handing .0 .0 .1 .0))) $
-        move ! (34 ∷ []) $ use1 W (later (some (λ (μ : ℕ). some (λ (δ : GName).
-        raw (Front 𝓤 H A mem go .pre (to-read ν r μ δ)) ⊛ ‵ (KeptS i32 (ν ∷ []) (μ ∷ []) fullShare r)))))
-        (to-front 𝓤 H A mem go W (ν ∷ []) fullShare r) $ await ! tt $ pick ! (λ μ. pick ! (λ δ. split ! $
-        calls-at ! fm (Front 𝓤 H A mem go) known-front (to-read ν r μ δ)
-        (and-then ! (copies ! 26 refl) (no-more !)) (λ v.
-        use2 W (later (some (λ (z : ℤ). given (Fronted (r .now) v z)
-        (‵ (Own (ν ∷ []) i32 r) ⊛ ‵ (flft (ν ∷ []) fullShare)))))
-        (front-over 𝓤 H A mem go W (ν ∷ []) fullShare r μ δ v) $ await ! tt $ pick ! (λ z. learn ! (λ fronted. split ! $
-        drop ! $ move ! (0 ∷ 35 ∷ 36 ∷ []) $
-        use3 W (later (some (λ (s : List ℤ × List ℤ). given (After m (x .now) (y .now) (s .0) (s .1))
-        (raw (Areas (s .0) (s .1))))))
-        (over 𝓤 H A mem go W κ₀ κ₁ q₀ q₁ m x y ν g) $ await ! tt $ pick ! (λ s. learn ! (λ after. to-end ! $
+        -- `let total = front(part)`, after which the part is over: for this call the context has one entry in front
+        move ! (30 ∷ []) $ use1 W (raw (Front 𝓤 H A mem go .pre (to-read ν r)))
+        (to-front 𝓤 H A mem go W (ν ∷ []) fullShare r) $
+        calls-at ! fm (Front 𝓤 H A mem go) known-front (to-read ν r) (and-then ! (copies ! 9 refl) (no-more !)) (λ v.
+        use1 W (later (some (λ (z : ℤ). given (Fronted (r .now) v z) (‵ (flft (ν ∷ []) fullShare)))))
+        (front-over 𝓤 H A mem go W (ν ∷ []) fullShare r v) $ await ! tt $ pick ! (λ z. learn ! (λ fronted.
+        move ! (0 ∷ 31 ∷ 32 ∷ []) $ use3 W (later (raw (Have a′ b′)))
+        (over 𝓤 H A mem go W κ₀ κ₁ q₀ q₁ m x y ν g) $ await ! tt $ to-end ! $
         land ! (from ! (stop !)) (init ! 10 refl (sint-lawful 𝓤 H A W w32 .typed z (v ∷ []) (fronted .0) .0)) $
         becomes ! 10 refl (ap only (fronted .0 .0)) $
         -- `let kept = other(m, first, second)`
-        reborrows ! refl 4 refl (init ! 26 refl (tt, tt)) (copies ! 26 refl) refl (init ! 28 refl (sized (roomy .0))) $
-        reborrows ! refl 6 refl (init ! 30 refl (tt, tt)) (copies ! 30 refl) refl (init ! 32 refl (sized (roomy′ .0))) $
-        move ! (34 ∷ []) $ use1 W (later (some (λ (ξ : ℕ). some (λ (h : GName × GName).
-        raw (Other 𝓤 H A mem go .pre (to-ask s ξ h))
-        ⊛ ‵ (Shared κ₀ κ₁ q₀ q₁ (at-last x (s .0)) (at-last y (s .1)) ξ)))))
-        (to-other 𝓤 H A mem go W κ₀ κ₁ q₀ q₁ m x y (s .0) (s .1) m-fits (after .first-length) (after .second-length)) $
-        await ! tt $ pick ! (λ ξ. pick ! (λ h. split ! $
-        calls-at ! fm (Other 𝓤 H A mem go) known-other (to-ask s ξ h)
-        (and-then ! (copies ! 4 refl) (and-then ! (copies ! 30 refl) (and-then ! (copies ! 34 refl) (no-more !)))) (λ u.
-        use2 W (later (some (λ (k : ℤ). given (Answered m (s .0) (s .1) u k)
-        (raw (Areas (s .0) (s .1))))))
-        (other-over 𝓤 H A mem go W κ₀ κ₁ q₀ q₁ m x y (s .0) (s .1) ξ h u) $ await ! tt $ pick ! (λ k.
+        reborrows ! refl 4 refl (init ! 22 refl (tt, tt)) (copies ! 22 refl) refl (init ! 24 refl (sized (roomy .0))) $
+        reborrows ! refl 6 refl (init ! 26 refl (tt, tt)) (copies ! 26 refl) refl (init ! 28 refl (sized (roomy′ .0))) $
+        move ! (30 ∷ []) $ use1 W (later (some (λ (ξ : ℕ). some (λ (h : GName × GName).
+        raw (Other 𝓤 H A mem go .pre (to-ask ξ h)) ⊛ ‵ (Shared κ₀ κ₁ q₀ q₁ (at-last x a′) (at-last y b′) ξ)))))
+        (to-other 𝓤 H A mem go W κ₀ κ₁ q₀ q₁ m x y a′ b′ m-fits (length-firstAfter m (x .now) (y .now))
+        (length-secondAfter m (x .now) (y .now))) $ await ! tt $ pick ! (λ ξ. pick ! (λ h. split ! $
+        calls-at ! fm (Other 𝓤 H A mem go) known-other (to-ask ξ h)
+        (and-then ! (copies ! 4 refl) (and-then ! (copies ! 26 refl) (and-then ! (copies ! 30 refl) (no-more !)))) (λ u.
+        use2 W (later (some (λ (k : ℤ). given (Answered m a′ b′ u k) (raw (Have a′ b′)))))
+        (other-over 𝓤 H A mem go W κ₀ κ₁ q₀ q₁ m x y a′ b′ ξ h u) $ await ! tt $ pick ! (λ k.
         learn ! (λ answered. to-end ! $
         land ! (from ! (stop !)) (init ! 12 refl (sint-lawful 𝓤 H A W w32 .typed k (u ∷ []) (answered .0) .0)) $
         becomes ! 12 refl (ap only (answered .0 .0)) $
@@ -158,14 +155,15 @@ module _ {M : Type 1} (𝓤 : URA M) (H : Heap 𝓤) (A : Atoms 𝓤) (W : Given
             (ofZ-fits w32 k (record { sfits = answered .0 .1 }), tt),
           ),
         )) $
-        returns ! (looks ! 0 refl) $ frees-held ! 17 _ refl $ free0 ! $
-        by ! (exits 𝓤 H A κ₀ κ₁ q₀ q₁ m x y mem go W m-fits z k v u (fronted .0) (answered .0) (s .0) (s .1)
-        (after .first-length) (after .second-length)
+        returns ! (looks ! 0 refl) $ frees-held ! 15 _ refl $ free0 ! $
+        by ! (exits 𝓤 H A κ₀ κ₁ q₀ q₁ m x y mem go W m-fits z k v u (fronted .0) (answered .0) a′ b′
+        (length-firstAfter m (x .now) (y .now)) (length-secondAfter m (x .now) (y .now))
         (record {
           total = fronted .1 ∙ ap (λ (part : List ℤ). entry part 0) (handing .1);
           kept = answered .1;
-          areas = after;
-        }))))))))))))))))))))
+          first = refl;
+          second = refl;
+        }))))))))))))))))
 
 module _ {M : Type 1} (𝓤 : URA M) (H : Heap 𝓤) (A : Atoms 𝓤) (W : Given 𝓤 H A) (mem : Memory → SProp 𝓤)
     (go : Routine → Fun 𝓤) where

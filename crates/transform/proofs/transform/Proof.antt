@@ -1,6 +1,6 @@
 -- `transform::transform` meets its contract: a walk of its MIR, by hand. Both areas are lent again to `run` and come
--- back as it leaves them (Calling.antt), and on each of the three ways out the part is cut out of its area and the
--- other area is given up for good (Handing.antt).
+-- back as it leaves them (Calling.antt), and on each of the three ways out both are given up for good, and the front of
+-- one is shared (Handing.antt).
 -- All that it knows of `run` is that it meets its contract, and of the rules' definitions the laws of Parts.antt. Both
 -- areas are spent: the result names their lifetime.
 -- Assumes nothing.
@@ -46,8 +46,7 @@ use denote.Triple.Table.{entered, cited}
 use denote.Triple.Walked.{says, Stays, stay-none, stay-dropped, onExit, walkOf, goes-none, goes-spent-slice, Walks}
 use denote.Triple.Walked.{ends-at, walked, walk-meets}
 use Rattle.rules.specs.Areas.{partInFirst}
-use Rattle.transform.specs.Told.{Ran, Handed}
-use Rattle.transform.specs.Remains.{Remains}
+use Rattle.transform.specs.Told.{Ran, Handed, AtLast}
 use Rattle.transform.proofs.Parts.{partInFirst-none, partInFirst-even, partInFirst-odd}
 use Rattle.transform.proofs.Again.{Kept}
 use Rattle.transform.proofs.Calling.{vals, Told, Run, Both, given-to, lent, back}
@@ -104,11 +103,11 @@ module _ {M : Type 1} (𝓤 : URA M) (H : Heap 𝓤) (A : Atoms 𝓤) (W : Given
           (tt, (tt, (tt, tt)))
 
       handed : ent 𝓤
-          (sep 𝓤 (sem 𝓤 H A (Part m x y t κ n γ)) (sep 𝓤 (A .lft κ q) (sem 𝓤 H A (Remains m x y)))) (Post out)
+          (sep 𝓤 (sem 𝓤 H A (Part m x y t κ n γ)) (sep 𝓤 (A .lft κ q) (sem 𝓤 H A (AtLast m x y)))) (Post out)
       handed =
-          qed W (‵ (Part m x y t κ n γ) ∷ ‵ (flft κ q) ∷ ‵ (Remains m x y) ∷ []) ∵
-          suffices ! (sep 𝓤 (sep 𝓤 OnExit (sem 𝓤 H A (Remains m x y))) (fact 𝓤 (Handed m x y (part m x y t γ))))
-          (via 𝓤 _ (assoc∗ 𝓤 OnExit (sem 𝓤 H A (Remains m x y)) (fact 𝓤 (Handed m x y (part m x y t γ))))
+          qed W (‵ (Part m x y t κ n γ) ∷ ‵ (flft κ q) ∷ ‵ (AtLast m x y) ∷ []) ∵
+          suffices ! (sep 𝓤 (sep 𝓤 OnExit (sem 𝓤 H A (AtLast m x y))) (fact 𝓤 (Handed m x y (part m x y t γ))))
+          (via 𝓤 _ (assoc∗ 𝓤 OnExit (sem 𝓤 H A (AtLast m x y)) (fact 𝓤 (Handed m x y (part m x y t γ))))
           (ends-at 𝓤 H A transform.ended stayed (transform.clauses 𝓤 H A mem go) W bound out (part m x y t γ)
           (tt, (tt, (tt, tt))) (tt, (tt, (tt, tt))))) $
           says ! (record { contents = refl; place = ap (λ (s : Bool). cond s (x .ptr) (y .ptr)) (sym e) }) $
@@ -120,7 +119,7 @@ module _ {M : Type 1} (𝓤 : URA M) (H : Heap 𝓤) (A : Atoms 𝓤) (W : Given
       (e : partInFirst m (x .now) (y .now) ≡ t) → ent 𝓤 (Both 𝓤 H A κ q x y (z .1) (z .2)) (Post (out t e (z .0)))
   exits z ran t e =
       qed W (raw (Both 𝓤 H A κ q x y (z .1) (z .2)) ∷ []) ∵ updating ! $
-      use1 W (later (some (λ (γ : GName). ‵ (Part m x y t κ (z .0) γ) ⊛ ‵ (flft κ q) ⊛ ‵ (Remains m x y))))
+      use1 W (later (some (λ (γ : GName). ‵ (Part m x y t κ (z .0) γ) ⊛ ‵ (flft κ q) ⊛ ‵ (AtLast m x y))))
       (hands 𝓤 H A W κ q m x y t e ran) $ await ! tt $ pick ! (λ γ. by ! (handed t e (z .0) γ))
 
   module _ (C : Calls 𝓤 H) (Λ : Loops 𝓤 H) (fm : FmC 𝓤 H (W .laws) C)
