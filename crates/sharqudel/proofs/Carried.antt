@@ -21,7 +21,7 @@ use Rattle.rules.specs.Table.{badShape, badM, badLength, shortArea, badSymbol, 
 use Rattle.rules.specs.Table.{badValue}
 use Rattle.rules.specs.Refusal.{sendRefusal, pairOutcome, refuseWord, orNoWord, readOutcome, softRefusal, hardRefusal}
 use Rattle.rules.specs.Refusal.{transformRefusal}
-use Rattle.rules.specs.Decoding.{SoftOutcome, HardOutcome}
+use Rattle.rules.specs.Decoding.{SoftAnswer, HardAnswer, SoftOutcome, HardOutcome}
 
 abbrev pub placed : ℕ → Bool
 placed k = eqb k 3 || eqb k 7
@@ -93,11 +93,11 @@ hardRefusal-listed h m w =
     refuse-listed 1 (badShape h m) (carries tt refl)
     (refuse-listed 6 (octary h) (carries tt refl) (refuseWord-listed h m w given))
 
-pub softOutcome-listed : (h m : ℕ) (ys : List ℤ) (o : Outcome (ℕ × ℤ × Bool)) → SoftOutcome h m ys o → Listed 1 o
+pub softOutcome-listed : (h m : ℕ) (ys : List ℤ) (o : Outcome SoftAnswer) → SoftOutcome h m ys o → Listed 1 o
 softOutcome-listed h m ys (gives a) p = given
 softOutcome-listed h m ys (refuses k v) p = refused (listed-carries (subst (Listed 1) p (softRefusal-listed h m ys)))
 
-pub hardOutcome-listed : (h m : ℕ) (w : List ℕ) (o : Outcome (ℕ × ℕ × Bool)) → HardOutcome h m w o → Listed 1 o
+pub hardOutcome-listed : (h m : ℕ) (w : List ℕ) (o : Outcome HardAnswer) → HardOutcome h m w o → Listed 1 o
 hardOutcome-listed h m w (gives a) p = given
 hardOutcome-listed h m w (refuses k v) p = refused (listed-carries (subst (Listed 1) p (hardRefusal-listed h m w)))
 

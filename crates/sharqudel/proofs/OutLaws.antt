@@ -11,7 +11,7 @@ use lib.IntN.{ℤ}
 use lib.ListN.{length, getD}
 use Rattle.rules.specs.Outcome.{Outcome, gives, allowed, leaves}
 use Rattle.rules.specs.Refusal.{softRefusal, hardRefusal, transformRefusal}
-use Rattle.rules.specs.Decoding.{Loud, Near}
+use Rattle.rules.specs.Decoding.{SoftAnswer, HardAnswer, Loud, Near}
 use Rattle.kinds.specs.declared.Refusal.{Refusal}
 use Rattle.kinds.specs.Told.{refusalSays, refusalTold, telling}
 use Rattle.encoder.specs.declared.Written.{Written}
@@ -55,9 +55,10 @@ module _ {o : Outcome ℕ} {g₀ p₀ : ℕ} where
       (record { number = t .number; message = refl; place = t .place })
 
 module _ {h m : ℕ} {ys : List ℤ} {g₀ : ℕ} {v₀ : ℤ} {t₀ : Bool} where
-  pub softOut-given : {g : ℕ} {v : ℤ} {t : Bool} → Loud h m ys g v t → SoftOut h m ys 0 g₀ g v₀ v t₀ t
-  softOut-given {g} {v} {t} p = record {
-    outcome = gives (g, v, t);
+  pub softOut-given : {a : SoftAnswer} → Loud h m ys a →
+      SoftOut h m ys 0 g₀ (a .message) v₀ (a .correlation) t₀ (a .tied)
+  softOut-given {a} p = record {
+    outcome = gives a;
     heard = p;
     number = refl;
     message = refl;
@@ -77,9 +78,10 @@ module _ {h m : ℕ} {ys : List ℤ} {g₀ : ℕ} {v₀ : ℤ} {t₀ : Bool} whe
   }
 
 module _ {h m : ℕ} {w : List ℕ} {g₀ d₀ : ℕ} {t₀ : Bool} {p₀ : ℕ} where
-  pub hardOut-given : {g d : ℕ} {t : Bool} → Near h m w g d t → HardOut h m w 0 g₀ g d₀ d t₀ t p₀ p₀
-  hardOut-given {g} {d} {t} p = record {
-    outcome = gives (g, d, t);
+  pub hardOut-given : {a : HardAnswer} → Near h m w a →
+      HardOut h m w 0 g₀ (a .message) d₀ (a .distance) t₀ (a .tied) p₀ p₀
+  hardOut-given {a} p = record {
+    outcome = gives a;
     matched = p;
     number = refl;
     message = refl;

@@ -1,20 +1,14 @@
 -- Only one ending keeps the promise of each call: two that start from the same inputs and the same cells end with the
--- same number, cells and slices written; the contract's other clause fixes the slices that are only read.
--- In order: encode and partner; the pair check; word reading; the outcome of a decoder; soft decoding; hard decoding;
--- the question about the transform, and the transform.  Assumes nothing.
+-- same number, cells and slices written.
+-- In order: encode and partner; the pair check; word reading; soft decoding; hard decoding; the question about the
+-- transform, and the transform.  Assumes nothing.
 use Prim.Native.Nat.{ℕ}
-use mathlib.Core.Path.{_≡_, sym, _∙_, ap}
+use mathlib.Core.Path.{_≡_, sym, _∙_}
 use mathlib.Core.Bool.{Bool}
 use mathlib.Core.List.{List}
 use lib.IntN.{ℤ}
-use Rattle.rules.specs.Outcome.{Outcome, gives, refuses, allowed}
-use Rattle.rules.specs.Refusal.{softRefusal, hardRefusal}
-use Rattle.rules.specs.Decoding.{SoftOutcome, HardOutcome}
-use Rattle.rules.proofs.OutcomeLaws.{gives-not-refuses}
-use Rattle.decoder.specs.declared.Heard.the-variants.{Found as Heard·Found}
-use Rattle.decoder.specs.declared.Matched.the-variants.{Found as Matched·Found}
-use Rattle.decoder.specs.Told.{heardTold, matchedTold}
-use Rattle.decoder.proofs.Outcomes.{hears-unique, matches-unique}
+use Rattle.rules.specs.Outcome.{Outcome}
+use Rattle.rules.proofs.DecodingLaws.{softOutcome-unique, hardOutcome-unique}
 use Rattle.sharqudel.specs.Out.{SentOut, CheckedOut, ReadOut, SoftOut, HardOut, JudgedOut, TransformedOut}
 use Rattle.sharqudel.proofs.CrossingLaws.{kindOf-cong, givenOr-cong, carriedOr-cong}
 
@@ -38,43 +32,15 @@ module _ {o : Outcome ℕ} {g₀ p₀ : ℕ} where
       (r ≡ s) × (g ≡ k) × (i ≡ j)
   readOut-unique p q = (p .number ∙ sym (q .number), p .message ∙ sym (q .message), p .place ∙ sym (q .place))
 
--- a relation that says an outcome's refusal is r's, and of what is given that r refuses nothing and that it is alone
-module _ {A : Type 0} (S : Outcome A → Type 0) (r : Outcome (Unit {0}))
-    (alone : (a b : A) → S (gives a) → S (gives b) → gives a ≡ gives b) (taken : (a : A) → S (gives a) → r ≡ allowed)
-    (told : (k : ℕ) (v : List ℕ) → S (refuses k v) → r ≡ refuses k v) where
-  outcome-unique : (o u : Outcome A) → S o → S u → o ≡ u
-  outcome-unique (gives a) (gives b) p q = alone a b p q
-  outcome-unique (gives a) (refuses k v) p q = absurd (gives-not-refuses (sym (taken a p) ∙ told k v q))
-  outcome-unique (refuses k v) (gives a) p q = absurd (gives-not-refuses (sym (taken a q) ∙ told k v p))
-  outcome-unique (refuses k v) (refuses j w) p q = let e = sym (told k v p) ∙ told j w q in cc
-
-softOutcome-unique : (h m : ℕ) (ys : List ℤ) (o u : Outcome (ℕ × ℤ × Bool)) → SoftOutcome h m ys o →
-    SoftOutcome h m ys u → o ≡ u
-softOutcome-unique h m ys =
-    outcome-unique (SoftOutcome h m ys) (softRefusal h m ys)
-    (λ a b p q. ap heardTold
-    (hears-unique h m ys (Heard·Found (record { message = record { 0 = a .0 }; correlation = a .1; tied = a .2 }))
-    (Heard·Found (record { message = record { 0 = b .0 }; correlation = b .1; tied = b .2 })) p q))
-    (λ a p. p .taken) (λ k v p. p)
-
 pub softOut-unique : {h m : ℕ} {ys : List ℤ} {r s g₀ g k : ℕ} {v₀ v w : ℤ} {t₀ t u : Bool} →
     SoftOut h m ys r g₀ g v₀ v t₀ t → SoftOut h m ys s g₀ k v₀ w t₀ u → (r ≡ s) × (g ≡ k) × (v ≡ w) × (t ≡ u)
 softOut-unique {h} {m} {ys} {g₀ = g₀} {v₀ = v₀} {t₀ = t₀} p q =
     let e = softOutcome-unique h m ys (p .outcome) (q .outcome) (p .heard) (q .heard) in (
       p .number ∙ kindOf-cong e ∙ sym (q .number),
-      p .message ∙ givenOr-cong e (λ a. a .0) g₀ ∙ sym (q .message),
-      p .correlation ∙ givenOr-cong e (λ a. a .1) v₀ ∙ sym (q .correlation),
-      p .tied ∙ givenOr-cong e (λ a. a .2) t₀ ∙ sym (q .tied),
+      p .message ∙ givenOr-cong e (λ a. a .message) g₀ ∙ sym (q .message),
+      p .correlation ∙ givenOr-cong e (λ a. a .correlation) v₀ ∙ sym (q .correlation),
+      p .tied ∙ givenOr-cong e (λ a. a .tied) t₀ ∙ sym (q .tied),
     )
-
-hardOutcome-unique : (h m : ℕ) (word : List ℕ) (o u : Outcome (ℕ × ℕ × Bool)) → HardOutcome h m word o →
-    HardOutcome h m word u → o ≡ u
-hardOutcome-unique h m word =
-    outcome-unique (HardOutcome h m word) (hardRefusal h m word)
-    (λ a b p q. ap matchedTold
-    (matches-unique h m word (Matched·Found (record { message = record { 0 = a .0 }; distance = a .1; tied = a .2 }))
-    (Matched·Found (record { message = record { 0 = b .0 }; distance = b .1; tied = b .2 })) p q))
-    (λ a p. p .taken) (λ k v p. p)
 
 pub hardOut-unique : {h m : ℕ} {word : List ℕ} {r s g₀ g k d₀ d d′ : ℕ} {t₀ t u : Bool} {p₀ i j : ℕ} →
     HardOut h m word r g₀ g d₀ d t₀ t p₀ i → HardOut h m word s g₀ k d₀ d′ t₀ u p₀ j →
@@ -82,9 +48,9 @@ pub hardOut-unique : {h m : ℕ} {word : List ℕ} {r s g₀ g k d₀ d d′ : �
 hardOut-unique {h} {m} {word} {g₀ = g₀} {d₀ = d₀} {t₀ = t₀} {p₀ = p₀} p q =
     let e = hardOutcome-unique h m word (p .outcome) (q .outcome) (p .matched) (q .matched) in (
       p .number ∙ kindOf-cong e ∙ sym (q .number),
-      p .message ∙ givenOr-cong e (λ a. a .0) g₀ ∙ sym (q .message),
-      p .distance ∙ givenOr-cong e (λ a. a .1) d₀ ∙ sym (q .distance),
-      p .tied ∙ givenOr-cong e (λ a. a .2) t₀ ∙ sym (q .tied),
+      p .message ∙ givenOr-cong e (λ a. a .message) g₀ ∙ sym (q .message),
+      p .distance ∙ givenOr-cong e (λ a. a .distance) d₀ ∙ sym (q .distance),
+      p .tied ∙ givenOr-cong e (λ a. a .tied) t₀ ∙ sym (q .tied),
       p .place ∙ carriedOr-cong e 0 p₀ ∙ sym (q .place),
     )
 

@@ -1,6 +1,5 @@
 -- What comes out of each exported call: its number r, and what every cell and every slice that it may write holds
--- afterwards, in terms of the outcome that 01 gives the call. A slice that is only read has a clause of its own in the
--- contract. A name with ₀ is what a cell held before.
+-- afterwards, in terms of the outcome that 01 gives the call. A name with ₀ is what a cell held before.
 -- Defines:  SentOut h m g word d r d′          encode and partner: the slice held d, and then d′
 --           CheckedOut o r b₀ b p₀ p w₀ w      the pair check: whether a pair, the place, which word
 --           ReadOut o r g₀ g p₀ p              word reading: the message, the place
@@ -21,7 +20,7 @@ use lib.ListN.{length}
 use Rattle.rules.specs.Outcome.{Outcome, leaves}
 use Rattle.rules.specs.Refusal.{sendRefusal, transformRefusal}
 use Rattle.rules.specs.Areas.{firstAfter, secondAfter}
-use Rattle.rules.specs.Decoding.{SoftOutcome, HardOutcome}
+use Rattle.rules.specs.Decoding.{SoftAnswer, HardAnswer, SoftOutcome, HardOutcome}
 use Rattle.sharqudel.specs.Crossing.{kindOf, givenOr, carriedOr, areaOf}
 
 pub record SentOut (h m g : ℕ) (word d : List ℕ) (r : ℕ) (d′ : List ℕ) : Type 0 where
@@ -40,20 +39,20 @@ pub record ReadOut (o : Outcome ℕ) (r g₀ g p₀ p : ℕ) : Type 0 where
   pub place : p ≡ carriedOr o 0 p₀
 
 pub record SoftOut (h m : ℕ) (ys : List ℤ) (r g₀ g : ℕ) (v₀ v : ℤ) (t₀ t : Bool) : Type 0 where
-  pub outcome : Outcome (ℕ × ℤ × Bool)
+  pub outcome : Outcome SoftAnswer
   pub heard : SoftOutcome h m ys outcome
   pub number : r ≡ kindOf outcome
-  pub message : g ≡ givenOr outcome (λ a. a .0) g₀
-  pub correlation : v ≡ givenOr outcome (λ a. a .1) v₀
-  pub tied : t ≡ givenOr outcome (λ a. a .2) t₀
+  pub message : g ≡ givenOr outcome (λ a. a .message) g₀
+  pub correlation : v ≡ givenOr outcome (λ a. a .correlation) v₀
+  pub tied : t ≡ givenOr outcome (λ a. a .tied) t₀
 
 pub record HardOut (h m : ℕ) (w : List ℕ) (r g₀ g d₀ d : ℕ) (t₀ t : Bool) (p₀ p : ℕ) : Type 0 where
-  pub outcome : Outcome (ℕ × ℕ × Bool)
+  pub outcome : Outcome HardAnswer
   pub matched : HardOutcome h m w outcome
   pub number : r ≡ kindOf outcome
-  pub message : g ≡ givenOr outcome (λ a. a .0) g₀
-  pub distance : d ≡ givenOr outcome (λ a. a .1) d₀
-  pub tied : t ≡ givenOr outcome (λ a. a .2) t₀
+  pub message : g ≡ givenOr outcome (λ a. a .message) g₀
+  pub distance : d ≡ givenOr outcome (λ a. a .distance) d₀
+  pub tied : t ≡ givenOr outcome (λ a. a .tied) t₀
   pub place : p ≡ carriedOr outcome 0 p₀
 
 pub record JudgedOut (o : Outcome (Unit {0})) (r p₀ p : ℕ) : Type 0 where

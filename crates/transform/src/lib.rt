@@ -64,7 +64,6 @@ pub fn transform<'a>(m: u32, first: &'a mut [i32], second: &'a mut [i32]) -> &'a
 // read.
 pub fn refusal(m: u32, first: &[i32], second: &[i32]) -> Judged
     ensures { λ r. ⌜ judgedTold r ≡ transformRefusal m (now (first .entry)) (length (now (second .entry))) ⌝ }
-    ensures { λ _. ⌜ (now (first .exit) ≡ now (first .entry)) × (now (second .exit) ≡ now (second .entry)) ⌝ }
 {
     if !shape::in_m(m) {
         return Judged::Refused(Refusal::Shape);

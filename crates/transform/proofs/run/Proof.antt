@@ -31,7 +31,7 @@ same-length-2 c = search needs
 returns : tie.Need-returns
 returns c =
     let asked = c .before .before .refusal in
-    ran-refused _ _ _ _ _ (sym (asked .ensures .0) ∙ ap judgedTold (c .enum-told .given .1))
+    ran-refused _ _ _ _ _ (sym (asked .ensures) ∙ ap judgedTold (c .enum-told .given .1))
 
 enum-told-2 : tie.Need-enum-told-2
 enum-told-2 c = search needs
@@ -45,7 +45,7 @@ start c = c .before .before .before .before .before
 
 granted : (c : tie.After-enum-told2) → let args = start c .args in
     transformRefusal (args .m) (now (args .first)) (length (now (args .second))) ≡ allowed
-granted c = sym (c .before .before .refusal .ensures .0) ∙ ap judgedTold (c .enum-told2 .given .1)
+granted c = sym (c .before .before .refusal .ensures) ∙ ap judgedTold (c .enum-told2 .given .1)
 
 taken : (c : tie.After-enum-told2) → let args = start c .args in
     Taken (args .m) (now (args .first)) (now (args .second))
