@@ -8,8 +8,8 @@ use mathlib.Core.Path.{_≡_}
 use mathlib.Core.List.{List}
 use lib.ListN.{length}
 use lib.Pow.{pow-pos}
-use Rattle.range.specs.Below.{Written}
-use Rattle.range.proofs.Writing.{written-all}
+use Rattle.range.specs.Below.{Fills}
+use Rattle.range.proofs.Fills.{fills-all}
 use Rattle.rules.specs.Shape.{phases, carriers}
 use Rattle.totals.specs.Gains.{tableOf}
 
@@ -28,6 +28,6 @@ module _ (m n : ℕ) (q : n ≡ carriers m) where
   symbol-lt h e l = div-lt-iff-lt-mul places-pos .1 (rw q l)
 
 pub table-filled : (h m : ℕ) (f : ℕ → ℕ → ℕ) (d t : List ℕ) → length d ≡ phases h * carriers m →
-    Written (gainOf m f) d 0 t (length d) → t ≡ tableOf h m f
+    Fills (gainOf m f) d 0 t (length d) → t ≡ tableOf h m f
 unfolding tableOf
-table-filled h m f d t l w = written-all (gainOf m f) d t (phases h * carriers m) (length d) w l l
+table-filled h m f d t l w = fills-all (gainOf m f) d t (phases h * carriers m) (length d) w l l

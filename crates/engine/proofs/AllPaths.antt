@@ -13,13 +13,13 @@ use Rattle.rules.specs.Shape.{greatestM, phases, pathsInUse, pathBits}
 use Rattle.rules.specs.Label.{labels}
 use Rattle.rules.proofs.Range.{InRange, inShape-range, messageBits-le}
 use Rattle.words.proofs.Labels.{phases-pow}
-use Rattle.engine.specs.Tables.{area, Paths, Path}
+use Rattle.engine.specs.Tables.{area, AllPaths, OnePath}
 
 -- all labels are those of the paths in use
 pub labels-paths : (h m : ℕ) → pathsInUse m * phases h ^ (m + 1) ≡ labels h m
 labels-paths h m = rw (phases-pow h (m + 1)) (sym (pow-add 2 (pathBits m) (h * (m + 1))))
 
-pub all-labels : {h m q half size uses : ℕ} {g w xs ys : List ℕ} → Paths h m q half size uses g w xs ys →
+pub all-labels : {h m q half size uses : ℕ} {g w xs ys : List ℕ} → AllPaths h m q half size uses g w xs ys →
     uses * size ≡ labels h m
 all-labels {h = h} {m = m} p = rw (p .used, p .sized) (labels-paths h m)
 
@@ -36,8 +36,8 @@ area-le h m r b =
 
 -- one path of all, the one with number n
 pub paths-path : (h m q half size uses l n : ℕ) (g w xs ys w′ xs′ ys′ : List ℕ) →
-    Paths h m q half size uses g w xs ys → n < uses → l ≡ n * size → length w′ ≡ length w → length xs′ ≡ length xs →
-    length ys′ ≡ length ys → Path h m q half l g w′ xs′ ys′
+    AllPaths h m q half size uses g w xs ys → n < uses → l ≡ n * size → length w′ ≡ length w → length xs′ ≡ length xs →
+    length ys′ ≡ length ys → OnePath h m q half l g w′ xs′ ys′
 paths-path h m q half size uses l n g w xs ys w′ xs′ ys′ p b e ew ex ey =
     let top : 2 * phases h ^ m ≤ area = area-le h m (inShape-range h m (p .shape)) (p .few) in
     record {

@@ -1,4 +1,4 @@
--- The labels of one path: specs/Tables.antt, Path. In order: its first label is one, and so are the others; powers to
+-- The labels of one path: specs/Tables.antt, OnePath. In order: its first label is one, and so are the others; powers to
 -- m, as the stages count them; the areas have room for the first table; the path's own word can be put into the gains;
 -- the first table, of which the stages may begin; what they answer, in terms of totals.
 -- Not here: the labels of all paths (AllPaths), the stages (Climbing).  Assumes nothing.
@@ -20,17 +20,17 @@ use Rattle.rules.specs.Word.{wordAt}
 use Rattle.rules.proofs.Range.{InRange, inShape-range, phases-least}
 use Rattle.rules.proofs.SymbolLaws.{wordAt-lt}
 use Rattle.totals.specs.Totals.{totalOf}
-use Rattle.totals.specs.Climb.{turnedAt, turned, climbs, byLabel}
-use Rattle.totals.proofs.Runs.{length-turned, turned-at}
+use Rattle.totals.specs.Climb.{gainsWithAt, gainsWith, climbs, byLabel}
+use Rattle.totals.proofs.Runs.{length-gainsWith, gainsWith-at}
 use Rattle.totals.proofs.Totals.{byLabel-total}
 use Rattle.standing.specs.declared.Standing.{Standing}
 use Rattle.standing.specs.Lead.{leadFrom}
 use Rattle.standing.proofs.Lead.{leadFrom-cong}
-use Rattle.engine.specs.Tables.{mostTotal, Runs, Turning, tableIn, Climbing, Path}
+use Rattle.engine.specs.Tables.{mostTotal, Runs, WordFits, tableIn, Climbing, OnePath}
 use Rattle.engine.proofs.Climbing.{wanted}
 use Rattle.engine.proofs.AllPaths.{labels-paths, labels-le}
 
-module _ (h m q half l : ℕ) (g w xs ys : List ℕ) (p : Path h m q half l g w xs ys) where
+module _ (h m q half l : ℕ) (g w xs ys : List ℕ) (p : OnePath h m q half l g w xs ys) where
   range : InRange h m
   range = inShape-range h m (p .shape)
 
@@ -66,7 +66,7 @@ module _ (h m q half l : ℕ) (g w xs ys : List ℕ) (p : Path h m q half l g w 
     long : length v ≡ carriers m
     long = ap length e ∙ length-listBelow (carriers m) (wordAt h m l)
 
-    pub path-turning : Turning q v g
+    pub path-turning : WordFits q v g
     path-turning = record {
       long = p .gains ∙ rw (sym (p .symbols), sym long);
       symbols = λ i b. rw (e, p .symbols, listBelow-at (carriers m) (wordAt h m l) i 0 (omega (arith, long)))
@@ -74,30 +74,30 @@ module _ (h m q half l : ℕ) (g w xs ys : List ℕ) (p : Path h m q half l g w 
     }
 
     -- the table at the front of an area
-    module _ (zs : List ℕ) (f : take (length g) zs ≡ turned q (length v) v g) where
-      table-first : tableIn q half 1 zs ≡ turned q (carriers m) v g
+    module _ (zs : List ℕ) (f : take (length g) zs ≡ gainsWith q (length v) v g) where
+      table-first : tableIn q half 1 zs ≡ gainsWith q (carriers m) v g
       table-first =
           let n : 2 * (q * half) * 1 ≡ length g =
           omega (arith, p .gains, ap (λ (k : ℕ). q * k) path-carriers, ap (λ (k : ℕ). k * carriers m) (p .symbols)) in
-          ap (λ (k : ℕ). take k zs) n ∙ f ∙ ap (λ (k : ℕ). turned q k v g) long
+          ap (λ (k : ℕ). take k zs) n ∙ f ∙ ap (λ (k : ℕ). gainsWith q k v g) long
 
       -- each number of it is a gain
-      first-small : (i : ℕ) → getD (turned q (carriers m) v g) i 0 * carriers m ≤ mostTotal
-      unfolding turnedAt
+      first-small : (i : ℕ) → getD (gainsWith q (carriers m) v g) i 0 * carriers m ≤ mostTotal
+      unfolding gainsWithAt
       first-small i = at (decLt i (q * carriers m))
         where
-          at : Dec (i < q * carriers m) → getD (turned q (carriers m) v g) i 0 * carriers m ≤ mostTotal
-          at (yes b) = rw (turned-at q (carriers m) v g i b) (p .small _)
+          at : Dec (i < q * carriers m) → getD (gainsWith q (carriers m) v g) i 0 * carriers m ≤ mostTotal
+          at (yes b) = rw (gainsWith-at q (carriers m) v g i b) (p .small _)
           at (no n) =
-              let b : length (turned q (carriers m) v g) ≤ i = omega (arith, length-turned q (carriers m) v g) in
-              rw (List·getD-eq-default (turned q (carriers m) v g) 0 b) (omega arith)
+              let b : length (gainsWith q (carriers m) v g) ≤ i = omega (arith, length-gainsWith q (carriers m) v g) in
+              rw (List·getD-eq-default (gainsWith q (carriers m) v g) 0 b) (omega arith)
 
       first-runs : Runs q half 1 (tableIn q half 1 zs)
       first-runs = record {
         symbols = omega (arith, p .symbols, phases-least h m range);
         halves = omega (arith, p .halved, one-le-pow (m - 1) 2 (lit< tt));
         run = omega arith;
-        long = ap length table-first ∙ length-turned q (carriers m) v g
+        long = ap length table-first ∙ length-gainsWith q (carriers m) v g
             ∙ omega (arith, ap (λ (k : ℕ). q * k) path-carriers);
         small = λ i. rw (table-first, sym path-carriers) (first-small i);
       }
@@ -129,10 +129,10 @@ module _ (h m q half l : ℕ) (g w xs ys : List ℕ) (p : Path h m q half l g w 
           r ≡ leadFrom l (λ j. totalOf h m g (l + j)) (phases h ^ (m + 1)) st
       path-returned st r back =
           let a : wanted q half 1 l zs st (m - 1)
-          ≡ leadFrom l (byLabel q (phases h ^ m) (climbs q m 1 (turned q (carriers m) v g))) (phases h ^ (m + 1)) st =
+          ≡ leadFrom l (byLabel q (phases h ^ m) (climbs q m 1 (gainsWith q (carriers m) v g))) (phases h ^ (m + 1)) st =
           rw (size, width, table-first, stages) in
           back ∙ a ∙ leadFrom-cong l _ _ (phases h ^ (m + 1)) st total
         where
           total : (j : ℕ) → j < phases h ^ (m + 1) →
-              byLabel q (phases h ^ m) (climbs q m 1 (turned q (carriers m) v g)) j ≡ totalOf h m g (l + j)
+              byLabel q (phases h ^ m) (climbs q m 1 (gainsWith q (carriers m) v g)) j ≡ totalOf h m g (l + j)
           total j b = rw (e, p .first, p .symbols) (byLabel-total h m g (p .number) j b)

@@ -11,8 +11,8 @@ use mathlib.Core.List.{List, _++_}
 use lib.ListN.{length, getD, take, drop, length-append, length-take, length-drop}
 use lib.Seq.{take-at}
 use Rattle.range.proofs.Products.{times-within, times-least}
-use Rattle.totals.specs.Climb.{turnedAt, pairAt, climbedAt}
-use Rattle.totals.proofs.Runs.{turnedAt-run, climbedAt-run}
+use Rattle.totals.specs.Climb.{gainsWithAt, pairAt, climbedAt}
+use Rattle.totals.proofs.Runs.{gainsWithAt-run, climbedAt-run}
 use Rattle.engine.specs.Tables.{mostTotal, Runs, tableIn}
 
 module _ {q half w : ℕ} {xs : List ℕ} (p : Runs q half w xs) where
@@ -67,9 +67,9 @@ further-step t c half n b r e p =
     p ∙ rw e (mod-add-mod (t + c * half) n half) ∙ ap (λ (x : ℕ). x % n) i
 
 -- the gain of symbol s at place i, as many symbols further on as the word's symbol says
-pub turnedAt-gain : (q n : ℕ) (w g : List ℕ) (s i o x e : ℕ) → i < n → o ≡ s * n → x ≡ getD w i 0 → e ≡ (s + x) % q →
-    getD g (e * n + i) 0 ≡ turnedAt q n w g (o + i)
-turnedAt-gain q n w g s i o x e l p f k = rw (k, f, p) (sym (turnedAt-run q n w g s i l))
+pub gainsWithAt-gain : (q n : ℕ) (w g : List ℕ) (s i o x e : ℕ) → i < n → o ≡ s * n → x ≡ getD w i 0 → e ≡ (s + x) % q →
+    getD g (e * n + i) 0 ≡ gainsWithAt q n w g (o + i)
+gainsWithAt-gain q n w g s i o x e l p f k = rw (k, f, p) (sym (gainsWithAt-run q n w g s i l))
 
 -- a table at the front of an area lies in it
 pub runs-size : (q half w : ℕ) (xs : List ℕ) → Runs q half w (tableIn q half w xs) → 2 * (q * half) * w ≤ length xs

@@ -3,14 +3,14 @@
 --           mostTotal             no number of any table is above it
 --           Runs q half w xs      xs may be read by a stage: 2 q half runs of w numbers, each so small that the stages
 --                                 that follow stay within mostTotal
---           Turning q w g         gains g, in q runs as long as the word w, may be turned by w
+--           WordFits q w g        gains g, in q runs as long as the word w, may be taken with w put in
 --           Climbing d q half w l xs ys    d stages and the last may follow from a table at the front of the area xs,
 --                                 and go to and fro between xs and ys; the labels are counted from l
 --           tableIn q half w xs   the table at the front of the area xs
---           Areas m w xs ys       the areas have room for a word, and for the tables of two or four phases
---           Paths h m q half size uses g w xs ys    all paths may be searched with the gains g, by way of the areas w
+--           Rooms m w xs ys       the areas have room for a word, and for the tables of two or four phases
+--           AllPaths h m q half size uses g w xs ys    all paths may be searched with the gains g, by way of the areas w
 --                                 for a word, and xs and ys for tables
---           Path h m q half l g w xs ys    the labels of the path whose first label is l may be searched so
+--           OnePath h m q half l g w xs ys    the labels of the path whose first label is l may be searched so
 -- Laws: proofs/RunLaws.antt, Climbing.antt, PathLaws.antt, AllPaths.antt.  Assumes nothing: these are definitions.
 use Prim.Native.Nat.{ℕ, suc, _+_, _-_, _*_, _^_, _≤_, _<_}
 use mathlib.Core.Path.{_≡_}
@@ -34,7 +34,7 @@ pub record Runs (q half w : ℕ) (xs : List ℕ) : Type 0 where
   pub long : length xs ≡ 2 * (q * half) * w
   pub small : (i : ℕ) → getD xs i 0 * (2 * half) ≤ mostTotal
 
-pub record Turning (q : ℕ) (w g : List ℕ) : Type 0 where
+pub record WordFits (q : ℕ) (w g : List ℕ) : Type 0 where
   pub long : length g ≡ q * length w
   pub symbols : (i : ℕ) → i < length w → getD w i 0 < q
 
@@ -49,12 +49,12 @@ pub record Climbing (d q half w l : ℕ) (xs ys : List ℕ) : Type 0 where
   pub second : 2 * q * w * q ^ d ≤ length ys
   pub counted : l + w * q ^ suc d * q ≤ 2 ^ 32
 
-pub record Areas (m : ℕ) (w xs ys : List ℕ) : Type 0 where
+pub record Rooms (m : ℕ) (w xs ys : List ℕ) : Type 0 where
   pub word : length w ≡ carriers m
   pub first : area ≤ length xs
   pub second : area ≤ length ys
 
-pub record Paths (h m q half size uses : ℕ) (g w xs ys : List ℕ) : Type 0 where
+pub record AllPaths (h m q half size uses : ℕ) (g w xs ys : List ℕ) : Type 0 where
   pub shape : inShape h m ≡ true
   pub few : h ≤ greatestDecoded
   pub symbols : q ≡ phases h
@@ -63,9 +63,9 @@ pub record Paths (h m q half size uses : ℕ) (g w xs ys : List ℕ) : Type 0 wh
   pub used : uses ≡ pathsInUse m
   pub gains : length g ≡ phases h * carriers m
   pub small : (i : ℕ) → getD g i 0 * carriers m ≤ mostTotal
-  pub areas : Areas m w xs ys
+  pub areas : Rooms m w xs ys
 
-pub record Path (h m q half l : ℕ) (g w xs ys : List ℕ) : Type 0 where
+pub record OnePath (h m q half l : ℕ) (g w xs ys : List ℕ) : Type 0 where
   pub shape : inShape h m ≡ true
   pub symbols : q ≡ phases h
   pub halved : half ≡ 2 ^ (m - 1)

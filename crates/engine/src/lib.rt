@@ -20,10 +20,10 @@ ghost use Rattle.rules.specs.Shape.{inShape, phases, carriers};
 ghost use Rattle.rules.specs.Label.{labels};
 ghost use Rattle.rules.specs.Word.{wordAt};
 ghost use Rattle.totals.specs.Totals.{totalOf};
-ghost use Rattle.totals.specs.Climb.{turned, climbed, climbs, byLabel};
+ghost use Rattle.totals.specs.Climb.{gainsWith, climbed, climbs, byLabel};
 ghost use Rattle.standing.specs.Lead.{leadFrom, lead};
 ghost use Rattle.engine.specs.Search.{mostGain, accepts, searched};
-ghost use Rattle.engine.specs.Tables.{Areas, Runs, Turning, Climbing, Paths, Path, tableIn};
+ghost use Rattle.engine.specs.Tables.{Rooms, Runs, WordFits, Climbing, AllPaths, OnePath, tableIn};
 
 // The greatest h that the tables have room for, and the room: 2 q^m numbers.
 const GREATEST_DECODED: u32 = 2;
@@ -86,7 +86,7 @@ fn small(gains: &[u32]) -> bool
 // All paths in use, with the numbers that the shape gives.
 fn paths(h: u32, m: u32, gains: &[u32], word: &mut [u8], x: &mut [u32], y: &mut [u32]) -> Standing
     requires { ⌜ accepts h m (now gains) ≡ true ⌝ }
-    requires { ⌜ Areas m (now word) (now x) (now y) ⌝ }
+    requires { ⌜ Rooms m (now word) (now x) (now y) ⌝ }
     ensures { λ r. ⌜ r ≡ lead (totalOf h m (now (gains .entry))) (labels h m) ⌝ }
 {
     let q = shape::power(h) as usize;
@@ -109,7 +109,7 @@ fn each(
     x: &mut [u32],
     y: &mut [u32],
 ) -> Standing
-    requires { ⌜ Paths h m q half size uses (now gains) (now word) (now x) (now y) ⌝ }
+    requires { ⌜ AllPaths h m q half size uses (now gains) (now word) (now x) (now y) ⌝ }
     ensures { λ r. ⌜ r ≡ lead (totalOf h m (now (gains .entry))) (labels h m) ⌝ }
 {
     let mut st = Standing {
@@ -140,7 +140,7 @@ fn path(
     y: &mut [u32],
     before: Standing,
 ) -> Standing
-    requires { ⌜ Path h m q half first (now gains) (now word) (now x) (now y) ⌝ }
+    requires { ⌜ OnePath h m q half first (now gains) (now word) (now x) (now y) ⌝ }
     ensures { λ r. ⌜ r ≡ leadFrom first (λ j. totalOf h m (now (gains .entry)) (first + j))
         (phases h ^ (m + 1)) before ⌝ }
 {
@@ -159,10 +159,10 @@ fn own_word(h: u32, m: u32, label: u64, word: &mut [u8])
 
 // The first table, at the front of x.
 fn begin(q: usize, word: &[u8], gains: &[u32], x: &mut [u32])
-    requires { ⌜ Turning q (now word) (now gains) ⌝ }
+    requires { ⌜ WordFits q (now word) (now gains) ⌝ }
     requires { ⌜ length (now gains) ≤ length (now x) ⌝ }
     ensures { λ _. ⌜ (take (length (now (gains .entry))) (now (x .exit))
-        ≡ turned q (length (now (word .entry))) (now (word .entry)) (now (gains .entry)))
+        ≡ gainsWith q (length (now (word .entry))) (now (word .entry)) (now (gains .entry)))
         × (length (now (x .exit)) ≡ length (now (x .entry))) ⌝ }
 {
     let n = gains.len();

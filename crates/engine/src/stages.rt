@@ -4,7 +4,7 @@ use crate::wrap;
 ghost use Prim.Native.Nat.{_+_, _*_, _^_, _<_, _≤_};
 ghost use mathlib.Core.Path.{_≡_};
 ghost use lib.ListN.{length, getD};
-ghost use Rattle.range.specs.Below.{Written};
+ghost use Rattle.range.specs.Below.{Fills};
 ghost use Rattle.totals.specs.Climb.{climbed, climbedAt};
 ghost use Rattle.engine.specs.Tables.{Runs, mostTotal};
 
@@ -55,7 +55,7 @@ fn pass(q: usize, half: usize, w: usize, from: &[u32], to: &mut [u32])
 fn fan(q: usize, half: usize, w: usize, t: usize, o: usize, from: &[u32], to: &mut [u32])
     requires { ⌜ Runs q half w (now from) ⌝ }
     requires { ⌜ (t < q * half) × (o ≡ t * q * w) × (length (now to) ≡ q * half * q * w) ⌝ }
-    ensures { λ _. ⌜ Written (climbedAt q half w (now (from .entry))) (now (to .entry)) o (now (to .exit))
+    ensures { λ _. ⌜ Fills (climbedAt q half w (now (from .entry))) (now (to .entry)) o (now (to .exit))
         (o + q * w) ⌝ }
 {
     let n = q * half;

@@ -1,18 +1,18 @@
-// The first table of a path: the gains with the path's own word put in. What it writes is `turned` (totals,
+// The first table of a path: the gains with the path's own word put in. What it writes is `gainsWith` (totals,
 // specs/Climb.antt).
 use crate::wrap;
 ghost use Prim.Native.Nat.{_+_, _*_, _<_};
 ghost use mathlib.Core.Path.{_≡_};
 ghost use lib.ListN.{length};
-ghost use Rattle.range.specs.Below.{Written};
-ghost use Rattle.totals.specs.Climb.{turned, turnedAt};
-ghost use Rattle.engine.specs.Tables.{Turning};
+ghost use Rattle.range.specs.Below.{Fills};
+ghost use Rattle.totals.specs.Climb.{gainsWith, gainsWithAt};
+ghost use Rattle.engine.specs.Tables.{WordFits};
 
 // A run for each symbol.
 pub(super) fn start(q: usize, word: &[u8], gains: &[u32], to: &mut [u32])
-    requires { ⌜ Turning q (now word) (now gains) ⌝ }
+    requires { ⌜ WordFits q (now word) (now gains) ⌝ }
     requires { ⌜ length (now to) ≡ q * length (now word) ⌝ }
-    ensures { λ _. ⌜ now (to .exit) ≡ turned q (length (now (word .entry))) (now (word .entry)) (now (gains .entry)) ⌝ }
+    ensures { λ _. ⌜ now (to .exit) ≡ gainsWith q (length (now (word .entry))) (now (word .entry)) (now (gains .entry)) ⌝ }
 {
     let n = word.len();
     let mut o = 0;
@@ -26,9 +26,9 @@ pub(super) fn start(q: usize, word: &[u8], gains: &[u32], to: &mut [u32])
 
 // The run of symbol s, from o on: at each place what the symbol gains that stands the word's symbol further on.
 fn turn(q: usize, s: usize, o: usize, word: &[u8], gains: &[u32], to: &mut [u32])
-    requires { ⌜ Turning q (now word) (now gains) ⌝ }
+    requires { ⌜ WordFits q (now word) (now gains) ⌝ }
     requires { ⌜ (s < q) × (o ≡ s * length (now word)) × (length (now to) ≡ q * length (now word)) ⌝ }
-    ensures { λ _. ⌜ Written (turnedAt q (length (now (word .entry))) (now (word .entry)) (now (gains .entry)))
+    ensures { λ _. ⌜ Fills (gainsWithAt q (length (now (word .entry))) (now (word .entry)) (now (gains .entry)))
         (now (to .entry)) o (now (to .exit)) (o + length (now (word .entry))) ⌝ }
 {
     let n = word.len();

@@ -10,7 +10,7 @@ pub mod Tests
 pub mod FromOne
 pub mod Lists
 pub mod Filled
-pub mod Writing
+pub mod Fills
 pub mod SumsSigned
 pub mod Shifts
 pub mod Sizes

@@ -6,10 +6,10 @@
 --           firstBelow n f    the first i below n that passes f, if there is one (zeroOr is its step)
 --           listBelow n f     f 0, .., f (n - 1)
 --           filled n f d      d filled from the front: f 0, .., f (n - 1), and from n on what d holds there
---           Written f d i d′ j    a list that, as d, is filled with f up to i is, as d′, filled up to j
+--           Fills f d i d′ j  a list that, as d, is filled with f up to i is, as d′, filled up to j
 --           rowsBelow n f     the lists f 0, .., f (n - 1), end to end
 -- Laws: proofs/Sums.antt, Involutions.antt, Squares.antt, Tests.antt, FromOne.antt, Lists.antt, Filled.antt,
--- Writing.antt.
+-- Fills.antt.
 -- Assumes nothing: these are definitions.
 use Prim.Native.Nat.{ℕ, zero, suc, _+_}
 use mathlib.Core.Path.{_≡_}
@@ -51,7 +51,7 @@ abbrev pub filled : {A : Type 0} → ℕ → (ℕ → A) → List A → List A
 filled n f d = listBelow n f ++ drop n d
 
 -- said of whatever list l it was filled from, so that it holds of a loop seen from its own start
-pub record Written {A : Type 0} (f : ℕ → A) (d : List A) (i : ℕ) (d′ : List A) (j : ℕ) : Type 0 where
+pub record Fills {A : Type 0} (f : ℕ → A) (d : List A) (i : ℕ) (d′ : List A) (j : ℕ) : Type 0 where
   pub sized : length d′ ≡ length d
   pub on : (l : List A) → length d ≡ length l → d ≡ filled i f l → d′ ≡ filled j f l
 

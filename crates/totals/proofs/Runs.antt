@@ -10,25 +10,25 @@ use mathlib.Core.List.{List}
 use lib.Arith.{digits-lt, digits-div, digits-mod}
 use lib.ListN.{length, getD}
 use Rattle.range.proofs.Lists.{length-listBelow, listBelow-at}
-use Rattle.totals.specs.Climb.{turnedAt, turned, pairAt, climbedAt, climbed, byLabel}
+use Rattle.totals.specs.Climb.{gainsWithAt, gainsWith, pairAt, climbedAt, climbed, byLabel}
 
-pub length-turned : (q n : ℕ) (w g : List ℕ) → length (turned q n w g) ≡ q * n
-unfolding turned
-length-turned q n w g = length-listBelow (q * n) (turnedAt q n w g)
+pub length-gainsWith : (q n : ℕ) (w g : List ℕ) → length (gainsWith q n w g) ≡ q * n
+unfolding gainsWith
+length-gainsWith q n w g = length-listBelow (q * n) (gainsWithAt q n w g)
 
 pub length-climbed : (q half w : ℕ) (xs : List ℕ) → length (climbed q half w xs) ≡ q * half * q * w
 unfolding climbed
 length-climbed q half w xs = length-listBelow (q * half * q * w) (climbedAt q half w xs)
 
 -- symbol s at place i
-pub turnedAt-run : (q n : ℕ) (w g : List ℕ) (s i : ℕ) → i < n →
-    turnedAt q n w g (s * n + i) ≡ getD g ((s + getD w i 0) % q * n + i) 0
-unfolding turnedAt
-turnedAt-run q n w g s i l = rw (digits-div s l, digits-mod s l)
+pub gainsWithAt-run : (q n : ℕ) (w g : List ℕ) (s i : ℕ) → i < n →
+    gainsWithAt q n w g (s * n + i) ≡ getD g ((s + getD w i 0) % q * n + i) 0
+unfolding gainsWithAt
+gainsWithAt-run q n w g s i l = rw (digits-div s l, digits-mod s l)
 
-pub turned-at : (q n : ℕ) (w g : List ℕ) (e : ℕ) → e < q * n → getD (turned q n w g) e 0 ≡ turnedAt q n w g e
-unfolding turned
-turned-at q n w g e l = listBelow-at (q * n) (turnedAt q n w g) e 0 l
+pub gainsWith-at : (q n : ℕ) (w g : List ℕ) (e : ℕ) → e < q * n → getD (gainsWith q n w g) e 0 ≡ gainsWithAt q n w g e
+unfolding gainsWith
+gainsWith-at q n w g e l = listBelow-at (q * n) (gainsWithAt q n w g) e 0 l
 
 -- run t for coefficient c, number r
 pub climbedAt-run : (q half w : ℕ) (xs : List ℕ) (t c r : ℕ) → c < q → r < w →

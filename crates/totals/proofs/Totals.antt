@@ -15,8 +15,8 @@ use Rattle.range.proofs.Sums.{sumBelow-cong}
 use Rattle.rules.specs.Shape.{phases, carriers}
 use Rattle.rules.specs.Word.{wordAt}
 use Rattle.totals.specs.Totals.{gainAt, totalOf}
-use Rattle.totals.specs.Climb.{turnedAt, turned, climbs, byLabel}
-use Rattle.totals.proofs.Runs.{turnedAt-run, turned-at}
+use Rattle.totals.specs.Climb.{gainsWithAt, gainsWith, climbs, byLabel}
+use Rattle.totals.proofs.Runs.{gainsWithAt-run, gainsWith-at}
 use Rattle.totals.proofs.Linear.{linearAt}
 use Rattle.totals.proofs.Words.{labelBy, wordAt-labelBy}
 use Rattle.totals.proofs.Stages.{sumAt, Reached, reached-zero, climbs-reached}
@@ -33,16 +33,16 @@ module _ (h m : ℕ) (g : List ℕ) (n : ℕ) where
   first = listBelow (carriers m) (wordAt h m (n * phases h ^ (m + 1)))
 
   abbrev gains : ℕ → ℕ
-  gains = turnedAt (phases h) (carriers m) first g
+  gains = gainsWithAt (phases h) (carriers m) first g
 
   abbrev table : List ℕ
-  table = climbs (phases h) m 1 (turned (phases h) (carriers m) first g)
+  table = climbs (phases h) m 1 (gainsWith (phases h) (carriers m) first g)
 
   table-reached : Reached (phases h) (carriers m) gains m 1 table
   table-reached =
-      let begin : List ℕ = turned (phases h) (carriers m) first g in
+      let begin : List ℕ = gainsWith (phases h) (carriers m) first g in
       rw (pow-zero (phases h)) at (climbs-reached (phases h) m gains 0 m begin (pow-pos h) (zero-add m)
-      (reached-zero (phases h) (carriers m) gains begin (turned-at (phases h) (carriers m) first g)))
+      (reached-zero (phases h) (carriers m) gains begin (gainsWith-at (phases h) (carriers m) first g)))
 
   module _ (r s : ℕ) (lr : r < phases h ^ m) (ls : s < phases h) where
     gains-at : (z : ℕ) → z < carriers m →
@@ -51,7 +51,7 @@ module _ (h m : ℕ) (g : List ℕ) (n : ℕ) where
     gains-at z lz =
         let x : ℕ = linearAt (phases h) m r z in
         rw (symbol-further (phases h) (carriers m) s x z (pow-pos h) lz, wordAt-labelBy h m n r s z lr ls)
-        (turnedAt-run (phases h) (carriers m) first g ((s + x) % phases h) z lz
+        (gainsWithAt-run (phases h) (carriers m) first g ((s + x) % phases h) z lz
         ∙ rw (listBelow-at (carriers m) (wordAt h m (n * phases h ^ (m + 1))) z 0 lz))
 
     byLabel-parts : byLabel (phases h) (phases h ^ m) table (r * phases h + s) ≡ totalOf h m g (labelBy h m n r s)
@@ -62,7 +62,7 @@ module _ (h m : ℕ) (g : List ℕ) (n : ℕ) where
 
 -- label j of path n: m stages over the gains with the path's own word put in give its total
 pub byLabel-total : (h m : ℕ) (g : List ℕ) (n j : ℕ) → j < phases h ^ (m + 1) →
-    byLabel (phases h) (phases h ^ m) (climbs (phases h) m 1 (turned (phases h) (carriers m)
+    byLabel (phases h) (phases h ^ m) (climbs (phases h) m 1 (gainsWith (phases h) (carriers m)
     (listBelow (carriers m) (wordAt h m (n * phases h ^ (m + 1)))) g)) j ≡ totalOf h m g (n * phases h ^ (m + 1) + j)
 byLabel-total h m g n j l =
     let q : ℕ = phases h in

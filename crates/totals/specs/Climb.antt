@@ -3,11 +3,11 @@
 -- x_k = 0 and the run at x_k = 1 whose symbol is c_k further on, added number by number.
 -- Runs are numbered through symbol and place together: c symbols further on is c times `half` runs further on, modulo
 -- all of them.
--- Defines:  turned q n w g        the gains with a word w put in: what symbol s plus w's symbol gains at each place
+-- Defines:  gainsWith q n w g        the gains with a word w put in: what symbol s plus w's symbol gains at each place
 --           pairAt q half w xs t c r    number r of run t of the next table at coefficient c: two numbers of xs added
 --           climbed q half w xs   one stage, from 2 q half runs of w to q half runs of q w
 --           climbs q d w xs       d stages, from runs of w to runs of w q^d
---           turnedAt, climbedAt   their numbers by index
+--           gainsWithAt, climbedAt   their numbers by index
 --           byLabel q w xs j      of q runs of w, one for each constant, the number for label j: the constant stands
 --                                 lowest in a label
 -- Laws: proofs/Totals.antt (after m stages this is the total of that label).  Assumes nothing: these are definitions.
@@ -16,11 +16,11 @@ use mathlib.Core.List.{List}
 use lib.ListN.{getD}
 use Rattle.range.specs.Below.{listBelow}
 
-unfoldable pub turnedAt : ℕ → ℕ → List ℕ → List ℕ → ℕ → ℕ
-turnedAt q n w g e = getD g ((e / n + getD w (e % n) 0) % q * n + e % n) 0
+unfoldable pub gainsWithAt : ℕ → ℕ → List ℕ → List ℕ → ℕ → ℕ
+gainsWithAt q n w g e = getD g ((e / n + getD w (e % n) 0) % q * n + e % n) 0
 
-unfoldable pub turned : ℕ → ℕ → List ℕ → List ℕ → List ℕ
-turned q n w g = listBelow (q * n) (turnedAt q n w g)
+unfoldable pub gainsWith : ℕ → ℕ → List ℕ → List ℕ → List ℕ
+gainsWith q n w g = listBelow (q * n) (gainsWithAt q n w g)
 
 -- run t of the next table at coefficient c, number r
 unfoldable pub pairAt : ℕ → ℕ → ℕ → List ℕ → ℕ → ℕ → ℕ → ℕ

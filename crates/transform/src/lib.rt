@@ -17,7 +17,7 @@ ghost use lib.ListN.{length};
 ghost use ghost.Atoms.{sem};
 ghost use mir.Syntax.{w32};
 ghost use mir.Val.{SFits};
-ghost use Rattle.range.specs.Below.{firstBelow, filled, Written};
+ghost use Rattle.range.specs.Below.{firstBelow, filled, Fills};
 ghost use Rattle.range.specs.Signed.{entry};
 ghost use Rattle.rules.specs.Shape.{carriers};
 ghost use Rattle.rules.specs.Spectrum.{accepted};
@@ -197,7 +197,7 @@ fn pass(s: usize, n: usize, from: &[i32], to: &mut [i32])
 // The first half of the block that begins at p: the sums of its entries and those of the second half.
 fn sums(s: usize, p: usize, from: &[i32], to: &mut [i32])
     requires { ⌜ Block s p (now from) (now to) ⌝ }
-    ensures { λ _. ⌜ Written (butterfly s (entry (now (from .entry)))) (now (to .entry)) p (now (to .exit)) (p + s) ⌝ }
+    ensures { λ _. ⌜ Fills (butterfly s (entry (now (from .entry)))) (now (to .entry)) p (now (to .exit)) (p + s) ⌝ }
 {
     let end = p + s;
     let mut i = p;
@@ -210,7 +210,7 @@ fn sums(s: usize, p: usize, from: &[i32], to: &mut [i32])
 // The second half: the entries of the first half less its own.
 fn differences(s: usize, p: usize, from: &[i32], to: &mut [i32])
     requires { ⌜ Block s p (now from) (now to) ⌝ }
-    ensures { λ _. ⌜ Written (butterfly s (entry (now (from .entry)))) (now (to .entry)) (p + s) (now (to .exit))
+    ensures { λ _. ⌜ Fills (butterfly s (entry (now (from .entry)))) (now (to .entry)) (p + s) (now (to .exit))
         (p + s + s) ⌝ }
 {
     let end = p + s + s;

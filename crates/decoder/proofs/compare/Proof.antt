@@ -7,7 +7,7 @@ use mathlib.Core.Path.{_≡_, _∙_, ap}
 use lib.ListN.{length}
 use denote.Ref.{now}
 use borrow.Author.Needs.{needs}
-use Rattle.range.proofs.Writing.{Filling, filling-none, filling-turn, filling-end}
+use Rattle.range.proofs.Fills.{Filling, filling-none, filling-turn, filling-end}
 use Rattle.rules.specs.Shape.{greatestH, phases, carriers}
 use Rattle.rules.proofs.Range.{InRange, inShape-range, phases-most}
 use Rattle.shape.proofs.Powers.{power-phases, power-carriers}
@@ -55,7 +55,7 @@ loop-holds c = filling-none _ _ 0 _ (omega arith)
 -- in a turn e is a number of the table, and its symbol is below q
 inside : (c : tie.In-loop Inv-loop μ-loop) → let args = start (c .before .before) .args in
     c .before .loop .e < length (now (args .gains))
-inside c = omega (arith, c .loop-test .taken, c .before .loop .inv .written .sized)
+inside c = omega (arith, c .loop-test .taken, c .before .loop .inv .fills .sized)
 
 symbol : (c : tie.In-loop Inv-loop μ-loop) → let at-power = c .before .before in
     c .before .loop .e / at-power .before .power .result < at-power .power2 .result
@@ -115,13 +115,13 @@ loop-again c =
     ∙ ap (λ (n : ℕ). hardGain (args .h) (now (args .word)) (e % n) (e / n)) (places at-power))
 
 same-length : tie.Need-same-length Inv-loop μ-loop
-same-length c = c .before .loop .inv .written .sized
+same-length c = c .before .loop .inv .fills .sized
 
 returns : tie.Need-returns Inv-loop μ-loop
 returns c =
     let at-start = start (c .before .before) in
     table-filled (at-start .args .h) (at-start .args .m) _ (now (at-start .args .gains)) _ (at-start .pre .1 .1)
-    (filling-end (c .before .loop .inv) (omega (arith, c .loop-test .left, c .before .loop .inv .written .sized)))
+    (filling-end (c .before .loop .inv) (omega (arith, c .loop-test .left, c .before .loop .inv .fills .sized)))
 
 pub compare-spec : {M : Type 1} → statement M
 compare-spec =

@@ -12,7 +12,7 @@ use denote.Ref.{now}
 use borrow.Author.Count.{below-none, below-more}
 use borrow.Author.Needs.{needs}
 use Rattle.range.proofs.Products.{times-within}
-use Rattle.range.proofs.Writing.{Filling, filling-none, filling-turn, filling-end}
+use Rattle.range.proofs.Fills.{Filling, filling-none, filling-turn, filling-end}
 use Rattle.rules.specs.Shape.{phases, halfTurn, carriers}
 use Rattle.rules.proofs.Range.{InRange, inShape-range, phases-half}
 use Rattle.shape.proofs.Powers.{power-is, power-carriers}
@@ -61,7 +61,7 @@ loop-holds c = (filling-none _ _ 0 _ (omega arith), below-none _)
 -- in a turn e is a number of the table
 inside : (c : tie.In-loop Inv-loop μ-loop) → let args = start (c .before .before) .args in
     c .before .loop .e < length (now (args .gains))
-inside c = omega (arith, c .loop-test .taken, c .before .loop .inv .0 .written .sized)
+inside c = omega (arith, c .loop-test .taken, c .before .loop .inv .0 .fills .sized)
 
 rem-soft-gain : tie.Need-rem-soft-gain Inv-loop μ-loop
 rem-soft-gain c = places-pos _ _ (places (c .before .before))
@@ -118,7 +118,7 @@ loop-again c =
     )
 
 same-length : tie.Need-same-length Inv-loop μ-loop
-same-length c = c .before .loop .inv .0 .written .sized
+same-length c = c .before .loop .inv .0 .fills .sized
 
 -- the first half turn of symbols has numbers of the table
 first-le : (c : tie.After-power2 Inv-loop μ-loop) →
@@ -134,7 +134,7 @@ returns c =
     let at-start = start at-power in
     let args = at-start .args in
     let at = c .before .loop in
-    let done : length (now (args .gains)) ≤ at .e = omega (arith, c .loop-test .left, at .inv .0 .written .sized) in (
+    let done : length (now (args .gains)) ≤ at .e = omega (arith, c .loop-test .left, at .inv .0 .fills .sized) in (
       table-filled (args .h) (args .m) _ (now (args .gains)) _ (at-start .pre .1 .1) (filling-end (at .inv .0) done),
       small-all (at-power .power2 .result) (at-power .before .power .result) (now (args .values))
           (omega (arith, turn at-power, pow-pos (args .h - 1))) (values-long at-power)

@@ -5,8 +5,8 @@ use lib.ListN.{length}
 use lib.Seq.{length-take-le}
 use denote.Ref.{now}
 use borrow.Author.Needs.{needs}
-use Rattle.totals.specs.Climb.{turned}
-use Rattle.totals.proofs.Runs.{length-turned}
+use Rattle.totals.specs.Climb.{gainsWith}
+use Rattle.totals.proofs.Runs.{length-gainsWith}
 use Rattle.engine.proofs.RunLaws.{front-written}
 use Rattle.engine.proofs.begin.Statement.{statement}
 use Rattle.engine.proofs.begin.Tie as tie
@@ -30,8 +30,8 @@ returns c =
     let s = c .before .before .before .before .before .before .before in
     let word = now (s .args .word) in
     let gains = now (s .args .gains) in
-    front-written _ (now (s .args .x)) _ (turned (s .args .q) (length word) word gains) (s .pre .1)
-    (length-turned (s .args .q) (length word) word gains ∙ sym (s .pre .0 .long)) (c .before .before .start .ensures)
+    front-written _ (now (s .args .x)) _ (gainsWith (s .args .q) (length word) word gains) (s .pre .1)
+    (length-gainsWith (s .args .q) (length word) word gains ∙ sym (s .pre .0 .long)) (c .before .before .start .ensures)
 
 pub begin-spec : {M : Type 1} → statement M
 begin-spec =

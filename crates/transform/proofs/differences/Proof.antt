@@ -8,7 +8,7 @@ use lib.ListN.{length}
 use denote.Ref.{now}
 use Rattle.range.specs.Signed.{entry}
 use Rattle.range.proofs.SumsSigned.{mag-sub}
-use Rattle.range.proofs.Writing.{Filling, filling-none, filling-turn, filling-end}
+use Rattle.range.proofs.Fills.{Filling, filling-none, filling-turn, filling-end}
 use Rattle.transform.specs.Steps.{butterfly}
 use Rattle.transform.proofs.Bits.{bits-back}
 use Rattle.transform.proofs.Halves.{butterfly-second}
@@ -39,7 +39,7 @@ start c = c .before .before
 
 -- in a turn the place lies in what is written
 place : (c : tie.In-loop Inv-loop μ-loop) → c .before .loop .i < length (c .before .loop .to)
-place c = omega (arith, c .loop-test .taken, start c .pre .fits, c .before .loop .inv .written .sized)
+place c = omega (arith, c .loop-test .taken, start c .pre .fits, c .before .loop .inv .fills .sized)
 
 sub-less : tie.Need-sub-less Inv-loop μ-loop
 sub-less c = omega (arith, c .before .loop .inv .from)
@@ -81,7 +81,7 @@ loop-again c =
     ∙ sym (butterfly-second _ _ (start in-loop .pre .begins) _ (at .i) (at .inv .from) (in-loop .loop-test .taken)))
 
 same-length : tie.Need-same-length Inv-loop μ-loop
-same-length c = c .before .loop .inv .written .sized
+same-length c = c .before .loop .inv .fills .sized
 
 returns : tie.Need-returns Inv-loop μ-loop
 returns c = filling-end (c .before .loop .inv) (c .loop-test .left)

@@ -8,22 +8,22 @@ use mathlib.Core.List.{List}
 use lib.IntN.{ℤ}
 use lib.ListN.{length}
 use denote.Ref.{now}
-use Rattle.range.specs.Below.{Written}
+use Rattle.range.specs.Below.{Fills}
 use Rattle.range.specs.Signed.{entry}
-use Rattle.range.proofs.Writing.{written-none, written-trans, written-end}
+use Rattle.range.proofs.Fills.{fills-none, fills-trans, fills-end}
 use Rattle.transform.specs.Steps.{butterfly, Start, Block}
 use Rattle.transform.proofs.Halves.{start-zero, start-next, start-le}
 use Rattle.transform.proofs.pass.Statement.{statement}
 use Rattle.transform.proofs.pass.Tie as tie
 
 abbrev Inv-loop : tie.InvT-loop
-Inv-loop s n from to₀ p₀ to p = Start s p × (p ≤ n) × Written (butterfly s (entry from)) to₀ 0 to p
+Inv-loop s n from to₀ p₀ to p = Start s p × (p ≤ n) × Fills (butterfly s (entry from)) to₀ 0 to p
 
 abbrev μ-loop : tie.MeasureT-loop
 μ-loop s n from to₀ p₀ to p = n - p
 
 loop-holds : tie.Need-loop-holds Inv-loop μ-loop
-loop-holds c = (start-zero _, omega arith, written-none _ _ 0)
+loop-holds c = (start-zero _, omega arith, fills-none _ _ 0)
 
 -- the function's entry, seen from inside the loop
 abbrev start : tie.In-loop Inv-loop μ-loop → tie.Start Inv-loop μ-loop
@@ -75,7 +75,7 @@ loop-again c =
     let at = turn c .before .loop in (
       start-next _ _ (at .inv .0),
       inside (turn c),
-      written-trans (at .inv .2) (written-trans (summed .sums .ensures) (differed .differences .ensures)),
+      fills-trans (at .inv .2) (fills-trans (summed .sums .ensures) (differed .differences .ensures)),
     )
 
 same-length : tie.Need-same-length Inv-loop μ-loop
@@ -84,7 +84,7 @@ same-length c = c .before .loop .inv .2 .sized
 returns : tie.Need-returns Inv-loop μ-loop
 returns c =
     let at = c .before .loop in
-    written-end _ _ _ (at .p) _ (at .inv .2) (omega (arith, at .inv .1, c .loop-test .left))
+    fills-end _ _ _ (at .p) _ (at .inv .2) (omega (arith, at .inv .1, c .loop-test .left))
 
 pub pass-spec : {M : Type 1} → statement M
 pass-spec =

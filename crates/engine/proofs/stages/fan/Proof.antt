@@ -8,9 +8,9 @@ use native.Mathlib.Omega.{arith}
 use mathlib.Core.Path.{_≡_, sym, _∙_, ap, subst}
 use lib.ListN.{length}
 use denote.Ref.{now}
-use Rattle.range.specs.Below.{Written}
+use Rattle.range.specs.Below.{Fills}
 use Rattle.range.proofs.Products.{times-within}
-use Rattle.range.proofs.Writing.{written-none, written-zero, written-next, written-trans}
+use Rattle.range.proofs.Fills.{fills-none, fills-zero, fills-next, fills-trans}
 use Rattle.totals.specs.Climb.{climbedAt}
 use Rattle.engine.proofs.RunLaws.{runs-within, runs-number, runs-sum, runs-half, climbedAt-sum}
 use Rattle.engine.proofs.RunLaws.{further-step}
@@ -18,7 +18,7 @@ use Rattle.engine.proofs.stages.fan.Statement.{statement}
 use Rattle.engine.proofs.stages.fan.Tie as tie
 
 abbrev Inv-loop2 : tie.InvT-loop2
-Inv-loop2 q half w t o from to₀ n a at b c d r₀ to r = (r ≤ w) × Written (climbedAt q half w from) to₀ at to (at + r)
+Inv-loop2 q half w t o from to₀ n a at b c d r₀ to r = (r ≤ w) × Fills (climbedAt q half w from) to₀ at to (at + r)
 
 abbrev μ-loop2 : tie.MeasureT-loop2
 μ-loop2 q half w t o from to₀ n a at b c d r₀ to r = w - r
@@ -28,7 +28,7 @@ Inv-loop q half w t o from to₀ n a at₀ b₀ c₀ to at b c =
     (c ≤ q)
     × (at ≡ o + c * w)
     × (b ≡ (t + c * half) % n)
-    × Written (climbedAt q half w from) to₀ o to at
+    × Fills (climbedAt q half w from) to₀ o to at
 
 abbrev μ-loop : tie.MeasureT-loop
 μ-loop q half w t o from to₀ n a at₀ b₀ c₀ to at b c = q - c
@@ -45,7 +45,7 @@ loop-holds : tie.Need-loop-holds Inv-loop2 μ-loop2 Inv-loop μ-loop
 loop-holds c =
     let at = c .before .before .before in
     let e : at .args .t + 0 * at .args .half ≡ at .args .t = omega arith in
-    (omega arith, omega arith, sym (rw e (mod-eq-of-lt (at .pre .1 .0))), written-none _ _ _)
+    (omega arith, omega arith, sym (rw e (mod-eq-of-lt (at .pre .1 .0))), fills-none _ _ _)
 
 -- the function's entry, seen from the loop over runs and from inside it, and that loop, seen from inside a run and from
 -- its end
@@ -126,7 +126,7 @@ odd-run-requires : tie.Need-odd-run-requires Inv-loop2 μ-loop2 Inv-loop μ-loop
 odd-run-requires c κs = (start c .pre .0 .run, omega (arith, second c))
 
 loop2-holds : tie.Need-loop2-holds Inv-loop2 μ-loop2 Inv-loop μ-loop
-loop2-holds c = (omega arith, written-zero _ _ _)
+loop2-holds c = (omega arith, fills-zero _ _ _)
 
 add-sum : tie.Need-add-sum Inv-loop2 μ-loop2 Inv-loop μ-loop
 add-sum c = omega (arith, first (turn c), turn c .before .before .even-run .ensures, c .loop2-test .taken)
@@ -163,7 +163,7 @@ loop2-again c =
     let in-run = c .before in
     let at = in-run .before .loop2 in (
       omega (arith, in-run .loop2-test .taken),
-      written-next _ _ _ _ (at .r) _ (at .inv .1) (omega (arith, place in-run, at .inv .1 .sized)) (summed c),
+      fills-next _ _ _ _ (at .r) _ (at .inv .1) (omega (arith, place in-run, at .inv .1 .sized)) (summed c),
     )
 
 add-at : tie.Need-add-at Inv-loop2 μ-loop2 Inv-loop μ-loop
@@ -195,7 +195,7 @@ loop-again c =
       omega (arith, run done .loop-test .taken),
       omega (arith, at .inv .1),
       further-step _ (at .c) _ _ (at .b) _ (at .inv .2) (c .wrap .ensures),
-      written-trans (at .inv .3) (subst (Written _ (at .to) (at .at) (in-run .to)) i (in-run .inv .1)),
+      fills-trans (at .inv .3) (subst (Fills _ (at .to) (at .at) (in-run .to)) i (in-run .inv .1)),
     )
 
 same-length : tie.Need-same-length Inv-loop2 μ-loop2 Inv-loop μ-loop
@@ -207,7 +207,7 @@ returns c =
     let args = entry (c .before) .args in
     let e : at .c ≡ args .q = omega (arith, at .inv .0, c .loop-test .left) in
     let n : at .at ≡ args .o + args .q * args .w = at .inv .1 ∙ ap (λ (k : ℕ). args .o + k * args .w) e in
-    subst (Written _ (now (args .to)) (args .o) (at .to)) n (at .inv .3)
+    subst (Fills _ (now (args .to)) (args .o) (at .to)) n (at .inv .3)
 
 pub fan-spec : {M : Type 1} → statement M
 fan-spec =

@@ -4,16 +4,16 @@
 use Prim.Native.Nat.{ℕ, _+_, _-_, _*_, _≤_}
 use native.Mathlib.Omega.{arith}
 use mathlib.Core.Path.{_≡_, _∙_, ap}
-use Rattle.range.specs.Below.{Written}
+use Rattle.range.specs.Below.{Fills}
 use Rattle.range.proofs.Products.{times-within}
-use Rattle.range.proofs.Writing.{written-none, written-trans, written-all}
+use Rattle.range.proofs.Fills.{fills-none, fills-trans, fills-all}
 use Rattle.totals.specs.Climb.{climbedAt, climbed}
 use Rattle.engine.proofs.RunLaws.{runs-number, runs-step}
 use Rattle.engine.proofs.stages.pass.Statement.{statement}
 use Rattle.engine.proofs.stages.pass.Tie as tie
 
 abbrev Inv-loop : tie.InvT-loop
-Inv-loop q half w from to₀ n step o₀ t₀ to o t = (t ≤ n) × (o ≡ t * step) × Written (climbedAt q half w from) to₀ 0 to o
+Inv-loop q half w from to₀ n step o₀ t₀ to o t = (t ≤ n) × (o ≡ t * step) × Fills (climbedAt q half w from) to₀ 0 to o
 
 abbrev μ-loop : tie.MeasureT-loop
 μ-loop q half w from to₀ n step o₀ t₀ to o t = n - t
@@ -25,7 +25,7 @@ mul-step : tie.Need-mul-step Inv-loop μ-loop
 mul-step c = omega (arith, runs-step (c .before .before .pre .0))
 
 loop-holds : tie.Need-loop-holds Inv-loop μ-loop
-loop-holds c = (omega arith, omega arith, written-none _ _ 0)
+loop-holds c = (omega arith, omega arith, fills-none _ _ 0)
 
 -- the function's entry, seen from the loop and from inside it, and the turn, seen from its end
 abbrev entry : tie.At-loop Inv-loop μ-loop → tie.Start Inv-loop μ-loop
@@ -67,7 +67,7 @@ loop-again c =
     let at = in-loop .before .loop in (
       omega (arith, in-loop .loop-test .taken),
       omega (arith, at .inv .1),
-      written-trans (at .inv .2) (c .before .before .fan .ensures),
+      fills-trans (at .inv .2) (c .before .before .fan .ensures),
     )
 
 same-length : tie.Need-same-length Inv-loop μ-loop
@@ -82,7 +82,7 @@ returns c =
     let e : at .t ≡ args .q * args .half = omega (arith, at .inv .0, c .loop-test .left) in
     let o : at .o ≡ args .q * args .half * (args .q * args .w) =
     at .inv .1 ∙ ap (λ (t : ℕ). t * (args .q * args .w)) e in
-    written-all _ _ _ _ (at .o) (at .inv .2) (s .pre .1) (o ∙ omega arith)
+    fills-all _ _ _ _ (at .o) (at .inv .2) (s .pre .1) (o ∙ omega arith)
 
 pub pass-spec : {M : Type 1} → statement M
 pass-spec =

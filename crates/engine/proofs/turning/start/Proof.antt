@@ -6,21 +6,21 @@ use native.Mathlib.Omega.{arith}
 use mathlib.Core.Path.{_≡_, _∙_, ap}
 use lib.ListN.{length}
 use denote.Ref.{now}
-use Rattle.range.specs.Below.{Written}
+use Rattle.range.specs.Below.{Fills}
 use Rattle.range.proofs.Products.{times-within}
-use Rattle.range.proofs.Writing.{written-none, written-trans, written-all}
-use Rattle.totals.specs.Climb.{turnedAt, turned}
+use Rattle.range.proofs.Fills.{fills-none, fills-trans, fills-all}
+use Rattle.totals.specs.Climb.{gainsWithAt, gainsWith}
 use Rattle.engine.proofs.turning.start.Statement.{statement}
 use Rattle.engine.proofs.turning.start.Tie as tie
 
 abbrev Inv-loop : tie.InvT-loop
-Inv-loop q word gains to₀ n o₀ s₀ to o s = (s ≤ q) × (o ≡ s * n) × Written (turnedAt q n word gains) to₀ 0 to o
+Inv-loop q word gains to₀ n o₀ s₀ to o s = (s ≤ q) × (o ≡ s * n) × Fills (gainsWithAt q n word gains) to₀ 0 to o
 
 abbrev μ-loop : tie.MeasureT-loop
 μ-loop q word gains to₀ n o₀ s₀ to o s = q - s
 
 loop-holds : tie.Need-loop-holds Inv-loop μ-loop
-loop-holds c = (omega arith, omega arith, written-none _ _ 0)
+loop-holds c = (omega arith, omega arith, fills-none _ _ 0)
 
 -- the function's entry, seen from the loop and from inside it, and the turn, seen from its end
 abbrev entry : tie.At-loop Inv-loop μ-loop → tie.Start Inv-loop μ-loop
@@ -62,20 +62,20 @@ loop-again c =
     let at = in-loop .before .loop in (
       omega (arith, in-loop .loop-test .taken),
       omega (arith, at .inv .1),
-      written-trans (at .inv .2) (c .before .before .turn .ensures),
+      fills-trans (at .inv .2) (c .before .before .turn .ensures),
     )
 
 same-length : tie.Need-same-length Inv-loop μ-loop
 same-length c = c .before .loop .inv .2 .sized
 
 returns : tie.Need-returns Inv-loop μ-loop
-unfolding turned
+unfolding gainsWith
 returns c =
     let at = c .before .loop in
     let s = entry (c .before) in
     let args = s .args in
     let e : at .s ≡ args .q = omega (arith, at .inv .0, c .loop-test .left) in
-    written-all _ _ _ _ (at .o) (at .inv .2) (s .pre .1) (at .inv .1 ∙ ap (λ (s : ℕ). s * length (now (args .word))) e)
+    fills-all _ _ _ _ (at .o) (at .inv .2) (s .pre .1) (at .inv .1 ∙ ap (λ (s : ℕ). s * length (now (args .word))) e)
 
 pub start-spec : {M : Type 1} → statement M
 start-spec =

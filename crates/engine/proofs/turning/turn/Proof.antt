@@ -7,22 +7,22 @@ use native.Mathlib.Omega.{arith}
 use mathlib.Core.Path.{_≡_, ap, subst}
 use lib.ListN.{length, getD}
 use denote.Ref.{now}
-use Rattle.range.specs.Below.{Written}
+use Rattle.range.specs.Below.{Fills}
 use Rattle.range.proofs.Products.{times-within, times-least}
-use Rattle.range.proofs.Writing.{written-zero, written-next}
-use Rattle.totals.specs.Climb.{turnedAt}
-use Rattle.engine.proofs.RunLaws.{turnedAt-gain}
+use Rattle.range.proofs.Fills.{fills-zero, fills-next}
+use Rattle.totals.specs.Climb.{gainsWithAt}
+use Rattle.engine.proofs.RunLaws.{gainsWithAt-gain}
 use Rattle.engine.proofs.turning.turn.Statement.{statement}
 use Rattle.engine.proofs.turning.turn.Tie as tie
 
 abbrev Inv-loop : tie.InvT-loop
-Inv-loop q s o word gains to₀ n i₀ to i = (i ≤ n) × Written (turnedAt q n word gains) to₀ o to (o + i)
+Inv-loop q s o word gains to₀ n i₀ to i = (i ≤ n) × Fills (gainsWithAt q n word gains) to₀ o to (o + i)
 
 abbrev μ-loop : tie.MeasureT-loop
 μ-loop q s o word gains to₀ n i₀ to i = n - i
 
 loop-holds : tie.Need-loop-holds Inv-loop μ-loop
-loop-holds c = (omega arith, written-zero _ _ _)
+loop-holds c = (omega arith, fills-zero _ _ _)
 
 shared-slice-read-index : tie.Need-shared-slice-read-index Inv-loop μ-loop
 shared-slice-read-index c = omega arith
@@ -81,12 +81,12 @@ stored : (c : tie.After-shared-slice-known4 Inv-loop μ-loop) → let wrapped = 
     let args = start in-loop .args in
     let n = length (now (args .word)) in
     getD (now (args .gains)) (wrapped .wrap .result * n + in-loop .before .loop .i) 0
-    ≡ turnedAt (args .q) n (now (args .word)) (now (args .gains)) (args .o + in-loop .before .loop .i)
+    ≡ gainsWithAt (args .q) n (now (args .word)) (now (args .gains)) (args .o + in-loop .before .loop .i)
 stored c =
     let wrapped = c .before in
     let in-loop = turned (wrapped .before) in
     let args = start in-loop .args in
-    turnedAt-gain (args .q) _ (now (args .word)) (now (args .gains)) (args .s) (in-loop .before .loop .i) (args .o) _ _
+    gainsWithAt-gain (args .q) _ (now (args .word)) (now (args .gains)) (args .s) (in-loop .before .loop .i) (args .o) _ _
     (in-loop .loop-test .taken) (start in-loop .pre .1 .1) (wrapped .before .index .ensures) (wrapped .wrap .ensures)
 
 index-requires : tie.Need-index-requires Inv-loop μ-loop
@@ -133,7 +133,7 @@ loop-again c =
     let in-loop = turned (wrapped .before) in
     let at = in-loop .before .loop in (
       omega (arith, in-loop .loop-test .taken),
-      written-next _ _ _ _ (at .i) _ (at .inv .1) (omega (arith, place in-loop, at .inv .1 .sized)) (stored c),
+      fills-next _ _ _ _ (at .i) _ (at .inv .1) (omega (arith, place in-loop, at .inv .1 .sized)) (stored c),
     )
 
 same-length : tie.Need-same-length Inv-loop μ-loop
@@ -144,7 +144,7 @@ returns c =
     let at = c .before .loop in
     let args = entry (c .before) .args in
     let e : at .i ≡ length (now (args .word)) = omega (arith, at .inv .0, c .loop-test .left) in
-    subst (Written _ (now (args .to)) (args .o) (at .to)) (ap (λ (n : ℕ). args .o + n) e) (at .inv .1)
+    subst (Fills _ (now (args .to)) (args .o) (at .to)) (ap (λ (n : ℕ). args .o + n) e) (at .inv .1)
 
 pub turn-spec : {M : Type 1} → statement M
 turn-spec =
