@@ -1,5 +1,5 @@
 -- How many paths there are: m ! / 2, for every m from 2 on; and the twelve of m = 4, written out.
--- In order: the factorial; the orders of n numbers are n ! many; tests of order; the orders of 1, .., m, none twice,
+-- In order: the orders of n numbers are n ! many; tests of order; the orders of 1, .., m, none twice,
 -- as many rising from first to last as falling; the law; the paths in use are among them; the paths of 4.
 -- Not here: which lists are paths (Members), their order (Increasing).  Assumes nothing.
 use Prim.Native.Nat.{ℕ, zero, suc, _+_, _-_, _*_, _≤_, _<_}
@@ -13,7 +13,7 @@ use mathlib.Core.List.{List, [], _∷_, map, flatMap, reverse, List·Memᴰ}
 use lib.Dec.{T, leb, ltb}
 use lib.ListN.{length, length-map}
 use borrow.Author.Tests.{lt-ltb, le-ltb, leb-true}
-use Rattle.range.specs.Below.{listBelow, allBelow}
+use Rattle.range.specs.Below.{_!, listBelow, allBelow}
 use Rattle.range.proofs.Tests.{allBelow-at}
 use Rattle.rules.specs.Shape.{greatestM, inM, pathsInUse, pathBits}
 use Rattle.rules.proofs.Range.{inM-least, inM-le}
@@ -26,12 +26,6 @@ use Rattle.paths.proofs.Sorted.{sorted-imp}
 use Rattle.paths.proofs.Increasing.{upTo-sorted, orders-sorted}
 use Rattle.paths.proofs.Counts.{Single, length-flatMap, length-keep-not, length-keep-le}
 use Rattle.paths.proofs.Reversed.{isOrder-reverse, headOf-reverse, lastOf-reverse, reverse-inj, ends-differ}
-
-infixl 90 _!
--- 1 * 2 * .. * n
-unfoldable pub _! : ℕ → ℕ
-zero ! = 1
-(suc n) ! = suc n * n !
 
 pub length-orders : (n : ℕ) (xs : List ℕ) → length xs ≡ n → Distinct xs → length (orders n xs) ≡ n !
 unfolding orders _!

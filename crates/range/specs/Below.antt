@@ -8,10 +8,11 @@
 --           filled n f d      d filled from the front: f 0, .., f (n - 1), and from n on what d holds there
 --           Fills f d i d′ j  a list that, as d, is filled with f up to i is, as d′, filled up to j
 --           rowsBelow n f     the lists f 0, .., f (n - 1), end to end
+--           n !               1 * 2 * .. * n
 -- Laws: proofs/Sums.antt, Involutions.antt, Squares.antt, Tests.antt, FromOne.antt, Lists.antt, Filled.antt,
 -- Fills.antt.
 -- Assumes nothing: these are definitions.
-use Prim.Native.Nat.{ℕ, zero, suc, _+_}
+use Prim.Native.Nat.{ℕ, zero, suc, _+_, _*_}
 use mathlib.Core.Path.{_≡_}
 use mathlib.Core.Bool.{Bool, true, false, _&&_}
 use mathlib.Core.List.{List, [], _∷_, _++_}
@@ -58,3 +59,8 @@ pub record Fills {A : Type 0} (f : ℕ → A) (d : List A) (i : ℕ) (d′ : Lis
 unfoldable pub rowsBelow : {A : Type 0} → ℕ → (ℕ → List A) → List A
 rowsBelow zero f = []
 rowsBelow (suc n) f = f zero ++ rowsBelow n (λ i. f (suc i))
+
+infixl 90 _!
+unfoldable pub _! : ℕ → ℕ
+zero ! = 1
+(suc n) ! = suc n * n !

@@ -6,7 +6,7 @@
 use Prim.Native.Nat.{ℕ, _*_, _^_, _-_, _<_}
 use native.Mathlib.Nat.{lt-of-lt-of-le}
 use native.Mathlib.Omega.{arith}
-use mathlib.Core.Path.{_≡_, sym, ap}
+use mathlib.Core.Path.{_≡_, sym}
 use mathlib.Core.Bool.{false}
 use mathlib.Core.List.{List}
 use mathlib.Core.Logic.{_≢_}
@@ -16,54 +16,49 @@ use Rattle.rules.specs.Word.{wordAt, symbolAt}
 use Rattle.rules.specs.Distance.{hamming, lee, distance}
 use Rattle.rules.specs.Outcome.{gives, allowed}
 use Rattle.rules.specs.Refusal.{hardRefusal}
-use Rattle.rules.specs.Decoding.{Near}
+use Rattle.rules.specs.Decoding.{HardAnswer, Near}
 use Rattle.rules.proofs.Range.{inShape-range, range-inM}
+use Rattle.rules.proofs.DecodingLaws.{hardOutcome-unique}
 use Rattle.signals.proofs.Damage.{nearest-of-damage}
 use Rattle.rules.proofs.Messages.{labelOf-lt}
 use Rattle.distances.proofs.Apart.{hamming-apart, lee-apart}
 use Rattle.decoder.specs.declared.Matched.{Matched}
-use Rattle.decoder.specs.declared.Matched.the-variants.{Found as Matched·Found}
 use Rattle.decoder.specs.Told.{matchedTold, Matches}
-use Rattle.decoder.proofs.Outcomes.{matches-unique}
 use Rattle.decoder.proofs.Taken.{HardTaken, hard-taken}
-use Rattle.theorems.specs.Theorems.{word}
+use Rattle.theorems.specs.Names.{word}
 
 -- what the one right answer tells is what every answer tells
-pub matched-of-near : (h m : ℕ) (w : List ℕ) (g d : ℕ) (t : Matched) → Near h m w g d false → Matches h m w t →
-    matchedTold t ≡ gives (g, d, false)
-matched-of-near h m w g d t near matches =
-    ap matchedTold (matches-unique h m w t (Matched·Found (record {
-      message = record { 0 = g };
-      distance = d;
-      tied = false;
-    })) matches near)
+pub matched-of-near : (h m : ℕ) (w : List ℕ) (a : HardAnswer) (t : Matched) → Near h m w a → Matches h m w t →
+    matchedTold t ≡ gives a
+matched-of-near h m w a t near matches = hardOutcome-unique h m w (matchedTold t) (gives a) matches near
 
 module _ (h m g : ℕ) (w : List ℕ) (taken : hardRefusal h m w ≡ allowed) (inside : g < messages h m) where
   pub near-of-damage : ((k : ℕ) → k < labels h m → k ≢ labelOf h m g →
       2 * distance h (carriers m) (symbolAt w) (word h m g) < distance h (carriers m) (word h m g) (wordAt h m k)) →
-      Near h m w g (distance h (carriers m) (symbolAt w) (word h m g)) false
+      Near h m w
+      (record { message = g; distance = distance h (carriers m) (symbolAt w) (word h m g); tied = false })
   near-of-damage apart =
       let s : HardTaken h m w = hard-taken h m w taken in
       record {
         taken = taken;
         inside = inside;
-        nearest = nearest-of-damage h m w (labelOf h m g) (labelOf-lt h m g inside) (s .inside) apart;
+        nearest = nearest-of-damage h m w (labelOf h m g) (labelOf-lt h m g inside) (s .symbols .below) apart;
       }
 
 pub damage-two : (m g : ℕ) (w : List ℕ) (t : Matched) → hardRefusal 1 m w ≡ allowed → g < messages 1 m →
-    2 * hamming (carriers m) (symbolAt w) (word 1 m g) < 2 ^ (m - 2) → Matches 1 m w t →
-    matchedTold t ≡ gives (g, hamming (carriers m) (symbolAt w) (word 1 m g), false)
+    let d = hamming (carriers m) (symbolAt w) (word 1 m g) in 2 * d < 2 ^ (m - 2) → Matches 1 m w t →
+    matchedTold t ≡ gives (record { message = g; distance = d; tied = false })
 unfolding distance
 damage-two m g w t taken inside small =
-    let r = inShape-range 1 m (hard-taken 1 m w taken .shape) in
-    matched-of-near 1 m w g _ t (near-of-damage 1 m g w taken inside (λ k b n. lt-of-lt-of-le small
+    let r = inShape-range 1 m (hard-taken 1 m w taken .symbols .shape) in
+    matched-of-near 1 m w _ t (near-of-damage 1 m g w taken inside (λ k b n. lt-of-lt-of-le small
     (hamming-apart 1 m (labelOf 1 m g) k (r .h-least) (range-inM 1 m r) (labelOf-lt 1 m g inside) b (λ e. n (sym e)))))
 
 pub damage-four : (m g : ℕ) (w : List ℕ) (t : Matched) → hardRefusal 2 m w ≡ allowed → g < messages 2 m →
-    2 * lee 2 (carriers m) (symbolAt w) (word 2 m g) < 2 ^ (m - 1) → Matches 2 m w t →
-    matchedTold t ≡ gives (g, lee 2 (carriers m) (symbolAt w) (word 2 m g), false)
+    let d = lee 2 (carriers m) (symbolAt w) (word 2 m g) in 2 * d < 2 ^ (m - 1) → Matches 2 m w t →
+    matchedTold t ≡ gives (record { message = g; distance = d; tied = false })
 unfolding distance
 damage-four m g w t taken inside small =
-    let r = inShape-range 2 m (hard-taken 2 m w taken .shape) in
-    matched-of-near 2 m w g _ t (near-of-damage 2 m g w taken inside (λ k b n. lt-of-lt-of-le small
+    let r = inShape-range 2 m (hard-taken 2 m w taken .symbols .shape) in
+    matched-of-near 2 m w _ t (near-of-damage 2 m g w taken inside (λ k b n. lt-of-lt-of-le small
     (lee-apart 2 m (labelOf 2 m g) k (omega arith) (range-inM 2 m r) (labelOf-lt 2 m g inside) b (λ e. n (sym e)))))

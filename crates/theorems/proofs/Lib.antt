@@ -1,7 +1,11 @@
 -- The theorems, proved: Proved has the whole index, the others what its claims need.
 pub mod Slices
+pub mod Rows
+pub mod PairRows
+pub mod DecodingRows
+pub mod TransformRows
+pub mod Formula
 pub mod Pairs
 pub mod Damage
 pub mod RoundTrips
-pub mod Ones
 pub mod Proved

@@ -1,19 +1,21 @@
--- Golay pairs, from the definitions to the calls. In order: what is told of two words in range; the word and the
--- partner of a message, as functions and as lists; the pair check on what encode and partner write, on a word and
--- itself, and on words that cancel; the envelope powers of both.
--- Not here: that word and partner are a pair, and that pairs are words that cancel (crate golay).  Assumes nothing.
+-- Golay pairs, from the definitions to the calls. In order: the word and the partner of a message, as functions and as
+-- lists; the pair check on what encode and partner write, on a word and itself, on words that cancel and on words that
+-- do not; the envelope powers of both.
+-- Not here: that word and partner are a pair, and that pairs are words that cancel (crate golay); every answer of the
+-- pair check (PairRows).  Assumes nothing.
 use Prim.Native.Nat.{ℕ, _*_, _≤_, _<_}
 use native.Mathlib.Omega.{arith}
-use mathlib.Core.Path.{_≡_, refl, sym, _∙_, ap, ap₂}
+use mathlib.Core.Path.{_≡_, sym, _∙_, ap, ap₂}
 use mathlib.Core.Bool.{true, true≢false}
 use mathlib.Core.List.{List}
 use mathlib.Core.Logic.{_≢_, _↔_}
 use lib.Dec.{eqb}
 use lib.IntN.{pos, _+ℤ_}
 use Rattle.range.specs.Below.{oneIf}
-use Rattle.rules.specs.Shape.{inShape, phases, halfTurn, carriers, messages}
+use Rattle.rules.specs.Shape.{inShape, halfTurn, carriers, messages}
 use Rattle.rules.specs.Label.{labelOf}
 use Rattle.rules.specs.Word.{wordOf, partnerOf, symbolAt}
+use Rattle.rules.specs.Symbols.{Symbols}
 use Rattle.rules.specs.Pair.{GolayPair, golayPair}
 use Rattle.rules.specs.Autocorrelation.{Cancel}
 use Rattle.rules.specs.Envelope.{envelopePower}
@@ -28,21 +30,14 @@ use Rattle.golay.proofs.Autocorrelations.{golayPair-iff-cancel}
 use Rattle.golay.proofs.LabelPairs.{golayPair-word-partner}
 use Rattle.golay.proofs.Envelopes.{envelopePower-together}
 use Rattle.pair.specs.declared.Paired.{Paired}
-use Rattle.pair.specs.declared.Paired.the-variants.{Yes}
+use Rattle.pair.specs.declared.Paired.the-variants.{Yes, No}
 use Rattle.pair.specs.Told.{pairedTold}
 use Rattle.pair.proofs.Pairs.{golayPair-iff, golayPair-cong, golayPair-self}
-use Rattle.pair.proofs.Outcomes.{Sized, pair-given, pair-gives}
+use Rattle.pair.proofs.Outcomes.{pair-gives}
 use Rattle.pair.proofs.Told.{pairedTold-inj}
-use Rattle.reader.specs.Shown.{Word}
-use Rattle.theorems.specs.Theorems.{word, partner, Encodes, Partners}
-use Rattle.theorems.proofs.Slices.{word-none, wordOf-word, partnerOf-word, done-shape, done-message, done-word}
-
--- of two words in range the test of a pair is told
-pair-tested : (h m : ℕ) (w v : List ℕ) → Word h m w → Word h m v →
-    gives (golayPair h m (symbolAt w) (symbolAt v)) ≡ pairOutcome h m w v
-pair-tested h m w v a b =
-    let s : Sized h m (phases h) w v = record { shape = a .shape; turn = refl; first = a .long; second = b .long } in
-    pair-given h m (phases h) w v s (word-none h m w a) (word-none h m v b)
+use Rattle.theorems.specs.Names.{word, partner, Encodes, Partners}
+use Rattle.theorems.proofs.Slices.{wordOf-symbols, partnerOf-symbols, done-shape, done-message, done-word}
+use Rattle.theorems.proofs.PairRows.{pair-tested, tested-iff, tested-false}
 
 module _ (h m g : ℕ) (shape : inShape h m ≡ true) (taken : g < messages h m) where
   pub word-partner : GolayPair h m (word h m g) (partner h m g)
@@ -63,7 +58,7 @@ module _ (h m g : ℕ) (shape : inShape h m ≡ true) (taken : g < messages h m)
   lists-yes : gives true ≡ pairOutcome h m (wordOf h m g) (partnerOf h m g)
   lists-yes =
       ap gives (sym lists-pair)
-      ∙ pair-tested h m (wordOf h m g) (partnerOf h m g) (wordOf-word h m g shape) (partnerOf-word h m g shape)
+      ∙ pair-tested h m (wordOf h m g) (partnerOf h m g) (wordOf-symbols h m g shape) (partnerOf-symbols h m g shape)
 
 pub written-yes : (h m g : ℕ) (d e w v : List ℕ) (t : Paired) → Encodes h m g d w → Partners h m g e v →
     pairedTold t ≡ pairOutcome h m w v → t ≡ Yes
@@ -80,15 +75,22 @@ self-not-yes h m w t told e =
     let r = inShape-range h m (given .0) in
     self-not-pair h m (symbolAt w) (r .h-least) (omega (arith, r .m-least)) (golayPair-iff h m _ _ .0 (given .1))
 
-pub yes-iff-cancel : (h m : ℕ) (w v : List ℕ) (r : Paired) → Word h m w → Word h m v →
-    pairedTold r ≡ pairOutcome h m w v → (r ≡ Yes) ↔ Cancel h m (symbolAt w) (symbolAt v)
-yes-iff-cancel h m w v r a b told =
-    let same = golayPair-iff-cancel h m (symbolAt w) (symbolAt v) (inShape-range h m (a .shape) .h-least) in
-    let test = golayPair-iff h m (symbolAt w) (symbolAt v) in
-    let given = told ∙ sym (pair-tested h m w v a b) in (
-      λ e. same .0 (test .0 (gives-inj (sym given ∙ ap pairedTold e))),
-      λ cancel. pairedTold-inj r Yes (given ∙ ap gives (test .1 (same .1 cancel))),
-    )
+module _ (h m : ℕ) (w v : List ℕ) (r : Paired) (a : Symbols h m w) (b : Symbols h m v)
+    (told : pairedTold r ≡ pairOutcome h m w v) where
+  given : pairedTold r ≡ gives (golayPair h m (symbolAt w) (symbolAt v))
+  given = told ∙ sym (pair-tested h m w v a b)
+
+  pub yes-iff-cancel : (r ≡ Yes) ↔ Cancel h m (symbolAt w) (symbolAt v)
+  yes-iff-cancel = (
+    λ e. tested-iff h m w v (a .shape) .0 (gives-inj (sym given ∙ ap pairedTold e)),
+    λ c. pairedTold-inj r Yes (given ∙ ap gives (tested-iff h m w v (a .shape) .1 c)),
+  )
+
+  pub no-iff-not-cancel : (r ≡ No) ↔ (Cancel h m (symbolAt w) (symbolAt v) → ⊥)
+  no-iff-not-cancel = (
+    λ e. tested-false h m w v (a .shape) .0 (gives-inj (sym given ∙ ap pairedTold e)),
+    λ n. pairedTold-inj r No (given ∙ ap gives (tested-false h m w v (a .shape) .1 n)),
+  )
 
 pub envelope-together : (h m g r s t : ℕ) → inShape h m ≡ true → g < messages h m → h ≤ r → t < halfTurn r →
     envelopePower h (carriers m) (word h m g) r s t +ℤ envelopePower h (carriers m) (partner h m g) r s t

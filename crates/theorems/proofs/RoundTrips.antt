@@ -1,26 +1,32 @@
--- What the decoders and word reading answer to a word as it was written. In order: every answer tells what the one
--- right answer tells; how far the word lies from itself and from others; hard decoding of the word, soft decoding of
--- its clean values, and word reading; the same of what encode leaves in a slice.
+-- What the decoders and word reading answer to a word as it was written. In order: how far the word lies from itself and
+-- from others; hard decoding of the word, soft decoding of its clean values; the same, and word reading, of what encode
+-- leaves in a slice; 01's case of sixteen symbols.
 -- Not here: words with damage (Damage), that the word sent has the greatest correlation (crate signals, Noiseless), how
 -- far words stand apart (crate distances).  Assumes nothing.
 use Prim.Native.Nat.{ℕ, _*_, _≤_, _<_}
 use native.Mathlib.Omega.{arith}
-use mathlib.Core.Path.{_≡_, refl, sym, _∙_, ap, subst}
+use mathlib.Core.Path.{_≡_, refl, sym, _∙_, subst}
 use mathlib.Core.Bool.{true, false}
-use mathlib.Core.List.{List}
+use mathlib.Core.List.{List, [], _∷_, flatMap}
 use mathlib.Core.Logic.{_≢_}
-use lib.IntN.{ℤ, pos}
-use Rattle.rules.specs.Shape.{inShape, phases, carriers, messages}
-use Rattle.rules.specs.Label.{labels, labelOf}
-use Rattle.rules.specs.Word.{wordAt, wordOf, symbolAt}
-use Rattle.rules.specs.Distance.{distance}
+use lib.Dec.{lit<}
+use lib.IntN.{pos}
+use Rattle.range.specs.Below.{sumBelow, countBelow, firstBelow, listBelow}
+use Rattle.rules.specs.Shape.{pathBits, inShape, phases, carriers, messages}
+use Rattle.rules.specs.Place.{digit}
+use Rattle.rules.specs.Path.{keep, without, orders, upTo, paths, pathAt}
+use Rattle.rules.specs.Label.{labels, labelPath, coefficient, constant, labelOf}
+use Rattle.rules.specs.Word.{links, formAt, wordAt, wordOf, symbolAt}
+use Rattle.rules.specs.Symbols.{Symbols}
+use Rattle.rules.specs.Distance.{hamming, distance}
 use Rattle.rules.specs.Soft.{clean}
 use Rattle.rules.specs.Outcome.{gives, allowed}
 use Rattle.rules.specs.Table.{badSymbol}
-use Rattle.rules.specs.Refusal.{readOutcome, hardRefusal, orNoWord}
-use Rattle.rules.specs.Decoding.{Loud, Near}
+use Rattle.rules.specs.Refusal.{readOutcome, hardRefusal}
+use Rattle.rules.specs.Decoding.{SoftAnswer, HardAnswer, Loud, Near}
 use Rattle.rules.proofs.Range.{InRange, inShape-range, range-inM}
-use Rattle.rules.proofs.SymbolLaws.{wordAt-lt}
+use Rattle.rules.proofs.SymbolLaws.{wordAt-lt, symbols-none}
+use Rattle.rules.proofs.DecodingLaws.{softOutcome-unique}
 use Rattle.signals.proofs.Metric.{distance-zero-of-agree, distance-comm, distance-triangle}
 use Rattle.signals.proofs.Noiseless.{length-clean, greatest-of-clean}
 use Rattle.rules.proofs.Messages.{labelOf-lt}
@@ -28,26 +34,15 @@ use Rattle.words.proofs.Forms.{wordOf-at, wordOf-lt}
 use Rattle.distances.proofs.Apart.{distance-apart}
 use Rattle.reader.specs.declared.Reading.{Reading}
 use Rattle.reader.specs.Told.{readingTold}
-use Rattle.reader.proofs.Outcomes.{read-search}
-use Rattle.reader.proofs.ShownLaws.{messageWith-some}
 use Rattle.decoder.specs.declared.Heard.{Heard}
-use Rattle.decoder.specs.declared.Heard.the-variants.{Found as Heard·Found}
 use Rattle.decoder.specs.declared.Matched.{Matched}
 use Rattle.decoder.specs.Told.{heardTold, matchedTold, Hears, Matches}
-use Rattle.decoder.proofs.Outcomes.{soft-allowed, hard-allowed, hears-unique}
-use Rattle.theorems.specs.Theorems.{word, Encodes}
-use Rattle.theorems.proofs.Slices.{word-none, wordOf-word, done-shape, done-message, done-word}
-use Rattle.theorems.proofs.Damage.{matched-of-near, near-of-damage}
-
--- what the one right answer tells is what every answer tells
-heard-of-loud : (h m : ℕ) (ys : List ℤ) (g : ℕ) (v : ℤ) (t : Heard) → Loud h m ys g v false → Hears h m ys t →
-    heardTold t ≡ gives (g, v, false)
-heard-of-loud h m ys g v t loud hears =
-    ap heardTold (hears-unique h m ys t (Heard·Found (record {
-      message = record { 0 = g };
-      correlation = v;
-      tied = false;
-    })) hears loud)
+use Rattle.decoder.proofs.Outcomes.{soft-allowed, hard-allowed}
+use Rattle.theorems.specs.Names.{word, Encodes}
+use Rattle.theorems.specs.Rows.{read-found}
+use Rattle.theorems.proofs.Slices.{wordOf-symbols, done-shape, done-message, done-word}
+use Rattle.theorems.proofs.Rows.{read-only}
+use Rattle.theorems.proofs.Damage.{matched-of-near, near-of-damage, damage-two}
 
 -- a word as it was written
 module _ (h m g : ℕ) (shape : inShape h m ≡ true) (inside : g < messages h m) where
@@ -83,16 +78,18 @@ module _ (h m g : ℕ) (shape : inShape h m ≡ true) (inside : g < messages h m
             (λ i _. wordAt-lt h m k i),
       )
 
-  sent-near : h ≤ 2 → Near h m sent g 0 false
-  unfolding badSymbol
+  is : Symbols h m sent
+  is = wordOf-symbols h m g shape
+
+  sent-near : h ≤ 2 → Near h m sent (record { message = g; distance = 0; tied = false })
   sent-near two =
-      let is = wordOf-word h m g shape in
       let taken : hardRefusal h m sent ≡ allowed =
-      hard-allowed h m sent shape (λ e. omega (arith, e)) (is .long) (word-none h m sent is) in
-      subst (λ (d : ℕ). Near h m sent g d false) sent-same
+      hard-allowed h m sent shape (λ e. omega (arith, e)) (is .long) (symbols-none h m sent is) in
+      subst (λ (d : ℕ). Near h m sent (record { message = g; distance = d; tied = false })) sent-same
       (near-of-damage h m g sent taken inside (λ k b n. rw sent-same (sent-apart k b n)))
 
-  sent-loud : (a : ℕ) → h ≤ 2 → 1 ≤ a → Loud h m (clean h m a sent) g (pos (N * a)) false
+  sent-loud : (a : ℕ) → h ≤ 2 → 1 ≤ a →
+      Loud h m (clean h m a sent) (record { message = g; correlation = pos (N * a); tied = false })
   sent-loud a two some = record {
     taken = soft-allowed h m (clean h m a sent) shape (λ e. omega (arith, e)) (length-clean h m a sent);
     inside = inside;
@@ -100,26 +97,31 @@ module _ (h m g : ℕ) (shape : inShape h m ≡ true) (inside : g < messages h m
         (wordOf-at h m g) sent-far;
   }
 
-  sent-read : gives g ≡ readOutcome h m sent
-  sent-read =
-      let is = wordOf-word h m g shape in
-      ap orNoWord (sym (messageWith-some h m sent is g inside refl))
-      ∙ read-search h m sent shape (is .long) (word-none h m sent is)
-
 pub hard-back : (h m g : ℕ) (d w : List ℕ) (t : Matched) → h ≤ 2 → Encodes h m g d w → Matches h m w t →
-    matchedTold t ≡ gives (g, 0, false)
+    matchedTold t ≡ gives (record { message = g; distance = 0; tied = false })
 hard-back h m g d w t two s matches =
-    matched-of-near h m w g 0 t (subst (λ (v : List ℕ). Near h m v g 0 false) (sym (done-word s))
+    let a : HardAnswer = record { message = g; distance = 0; tied = false } in
+    matched-of-near h m w a t (subst (λ (v : List ℕ). Near h m v a) (sym (done-word s))
     (sent-near h m g (done-shape s) (done-message s) two)) matches
 
 pub soft-back : (h m g a : ℕ) (d w : List ℕ) (t : Heard) → h ≤ 2 → 1 ≤ a → Encodes h m g d w →
-    Hears h m (clean h m a w) t → heardTold t ≡ gives (g, pos (carriers m * a), false)
+    Hears h m (clean h m a w) t →
+    heardTold t ≡ gives (record { message = g; correlation = pos (carriers m * a); tied = false })
 soft-back h m g a d w t two some s hears =
-    heard-of-loud h m (clean h m a w) g (pos (carriers m * a)) t
-    (subst (λ (v : List ℕ). Loud h m (clean h m a v) g (pos (carriers m * a)) false) (sym (done-word s))
-    (sent-loud h m g (done-shape s) (done-message s) a two some)) hears
+    let found : SoftAnswer = record { message = g; correlation = pos (carriers m * a); tied = false } in
+    softOutcome-unique h m (clean h m a w) (heardTold t) (gives found) hears
+    (subst (λ (v : List ℕ). Loud h m (clean h m a v) found) (sym (done-word s))
+    (sent-loud h m g (done-shape s) (done-message s) a two some))
 
 pub read-back : (h m g : ℕ) (d w : List ℕ) (t : Reading) → Encodes h m g d w → readingTold t ≡ readOutcome h m w →
     readingTold t ≡ gives g
 read-back h m g d w t s told =
-    told ∙ ap (readOutcome h m) (done-word s) ∙ sym (sent-read h m g (done-shape s) (done-message s))
+    told ∙ sym (read-only h m w (read-found g (done-shape s) (done-message s) (sym (done-word s))))
+
+-- 01: h = 1, m = 4, hard 1001001000011101: one place is changed in message 0's word, and two is below 4
+pub sixteen : (r : Matched) → Matches 1 4 (1 ∷ 0 ∷ 0 ∷ 1 ∷ 0 ∷ 0 ∷ 1 ∷ 0 ∷ 0 ∷ 0 ∷ 0 ∷ 1 ∷ 1 ∷ 1 ∷ 0 ∷ 1 ∷ []) r →
+    matchedTold r ≡ gives (record { message = 0; distance = 1; tied = false })
+unfolding hardRefusal badSymbol firstBelow hamming countBelow sumBelow wordAt formAt links pathAt paths orders upTo
+    listBelow without keep digit labelPath coefficient constant flatMap labelOf pathBits
+sixteen r =
+    damage-two 4 0 (1 ∷ 0 ∷ 0 ∷ 1 ∷ 0 ∷ 0 ∷ 1 ∷ 0 ∷ 0 ∷ 0 ∷ 0 ∷ 1 ∷ 1 ∷ 1 ∷ 0 ∷ 1 ∷ []) r refl (lit< tt) (lit< tt)

@@ -1,43 +1,28 @@
--- What encode and partner leave in a slice: N symbols in range, of a shape and a message in range. In order: no symbol
--- of such is refused; the words and the partners are such; the shape, the message and the word of what was written;
--- where they write.
+-- What encode and partner leave in a slice: N symbols in range, of a shape and a message in range. In order: the words
+-- and the partners are such; the shape, the message and the word of what was written; where they write, and where they
+-- do not.
 -- Not here: what the calls then answer (Pairs, Damage, RoundTrips).  Assumes nothing.
 use Prim.Native.Nat.{ℕ, _<_}
-use mathlib.Core.Path.{_≡_, sym, _∙_, subst}
+use mathlib.Core.Path.{_≡_, sym, _∙_}
 use mathlib.Core.Bool.{true}
 use mathlib.Core.List.{List}
-use mathlib.Core.Option.{none}
 use lib.ListN.{length}
 use borrow.Author.Tests.{lt-leb}
-use Rattle.rules.specs.Shape.{inShape, phases, carriers, messages}
-use Rattle.rules.specs.Word.{wordOf, partnerOf, symbolAt}
-use Rattle.rules.specs.Table.{firstBad}
-use Rattle.rules.proofs.SymbolLaws.{firstBad-of-below}
+use Rattle.rules.specs.Shape.{inShape, carriers, messages}
+use Rattle.rules.specs.Word.{wordOf, partnerOf}
+use Rattle.rules.specs.Symbols.{Symbols}
+use Rattle.rules.specs.Outcome.{refuses}
 use Rattle.words.proofs.Forms.{length-wordOf, length-partnerOf, wordOf-lt, partnerOf-lt}
 use Rattle.encoder.specs.declared.Written.{Written}
 use Rattle.encoder.specs.declared.Written.the-variants.{Done}
-use Rattle.encoder.specs.Sent.{Sent}
-use Rattle.encoder.proofs.SentLaws.{send-allowed, send-taken, sent-word, writtenTold-inj}
-use Rattle.reader.specs.Shown.{Word}
+use Rattle.encoder.specs.Sent.{writtenTold, Sent}
+use Rattle.encoder.proofs.SentLaws.{send-allowed, send-taken, sent-word, sent-kept, writtenTold-inj}
 
-pub word-none : (h m : ℕ) (w : List ℕ) → Word h m w → none ≡ firstBad (phases h) w
-word-none h m w is = firstBad-of-below (phases h) w (is .symbols)
+pub wordOf-symbols : (h m g : ℕ) → inShape h m ≡ true → Symbols h m (wordOf h m g)
+wordOf-symbols h m g shape = record { shape = shape; long = length-wordOf h m g; below = wordOf-lt h m g }
 
--- N symbols that are below 2^h at each place
-word-of-places : (h m : ℕ) (w : List ℕ) → inShape h m ≡ true → length w ≡ carriers m →
-    ((i : ℕ) → i < carriers m → symbolAt w i < phases h) → Word h m w
-word-of-places h m w shape long below = record {
-  shape = shape;
-  long = long;
-  symbols = λ i l. below i (subst (λ (n : ℕ). i < n) long l);
-}
-
-pub wordOf-word : (h m g : ℕ) → inShape h m ≡ true → Word h m (wordOf h m g)
-wordOf-word h m g shape = word-of-places h m (wordOf h m g) shape (length-wordOf h m g) (wordOf-lt h m g)
-
-pub partnerOf-word : (h m g : ℕ) → inShape h m ≡ true → Word h m (partnerOf h m g)
-partnerOf-word h m g shape =
-    word-of-places h m (partnerOf h m g) shape (length-partnerOf h m g) (partnerOf-lt h m g)
+pub partnerOf-symbols : (h m g : ℕ) → inShape h m ≡ true → Symbols h m (partnerOf h m g)
+partnerOf-symbols h m g shape = record { shape = shape; long = length-partnerOf h m g; below = partnerOf-lt h m g }
 
 module _ {h m g : ℕ} {word d w : List ℕ} (s : Sent h m g word d Done w) where
   pub done-shape : inShape h m ≡ true
@@ -54,3 +39,7 @@ pub sent-writes : (h m g : ℕ) (word d w : List ℕ) (r : Written) → inShape 
 sent-writes h m g word d w r shape long inside s =
     let e = send-allowed h m (length d) g shape long (lt-leb (messages h m) g inside) in
     (writtenTold-inj r Done (s .told ∙ e), sent-word s e)
+
+pub sent-keeps : {h m g : ℕ} {word d w : List ℕ} {r : Written} → Sent h m g word d r w → (k : ℕ) (v : List ℕ) →
+    writtenTold r ≡ refuses k v → w ≡ d
+sent-keeps s k v e = sent-kept k v s (sym (s .told) ∙ e)

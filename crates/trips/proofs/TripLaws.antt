@@ -26,14 +26,14 @@ module _ {h m g : ℕ} {d w : List ℕ} {s : Written} (p : Sent h m g (wordOf h 
   read-trip {r} q = record {
     slice = p .slice;
     answer = q;
-    back = λ e. theorems .read-back h m g d w r (sent-done h m g (wordOf h m g) d w e (sent-word p e)) q;
+    back = λ e. theorems .further .read-back h m g d w r (sent-done h m g (wordOf h m g) d w e (sent-word p e)) q;
   }
 
   pub hard-trip : {r : Matched} → Matches h m w r → HardBack h m g d r w
   hard-trip {r} q = record {
     slice = p .slice;
     answer = q;
-    back = λ e two. theorems .hard-back h m g d w r two (sent-done h m g (wordOf h m g) d w e (sent-word p e)) q;
+    back = λ e two. theorems .further .hard-back h m g d w r two (sent-done h m g (wordOf h m g) d w e (sent-word p e)) q;
   }
 
   pub check-trip : {b v : List ℕ} {t : Written} {r : Paired} → Sent h m g (partnerOf h m g) b t v →
@@ -42,7 +42,7 @@ module _ {h m g : ℕ} {d w : List ℕ} {s : Written} (p : Sent h m g (wordOf h 
     slice = p .slice;
     other = p′ .slice;
     answer = q;
-    back = λ e f. theorems .written-yes h m g d b w v r (sent-done h m g (wordOf h m g) d w e (sent-word p e))
+    back = λ e f. theorems .demand2 .written-yes h m g d b w v r (sent-done h m g (wordOf h m g) d w e (sent-word p e))
         (sent-done h m g (partnerOf h m g) b v f (sent-word p′ f)) q;
   }
 

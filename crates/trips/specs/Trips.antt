@@ -30,7 +30,8 @@ pub record ReadBack (h m g : ℕ) (d : List ℕ) (r : Reading) (d′ : List ℕ)
 pub record HardBack (h m g : ℕ) (d : List ℕ) (r : Matched) (d′ : List ℕ) : Type 0 where
   pub slice : d′ ≡ written h m g d (wordOf h m g)
   pub answer : Matches h m d′ r
-  pub back : sendRefusal h m (length d) g ≡ allowed → h ≤ 2 → matchedTold r ≡ gives (g, 0, false)
+  pub back : sendRefusal h m (length d) g ≡ allowed → h ≤ 2 →
+      matchedTold r ≡ gives (record { message = g; distance = 0; tied = false })
 
 pub record CheckBack (h m g : ℕ) (d e : List ℕ) (r : Paired) (d′ e′ : List ℕ) : Type 0 where
   pub slice : d′ ≡ written h m g d (wordOf h m g)

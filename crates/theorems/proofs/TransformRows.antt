@@ -1,0 +1,173 @@
+-- What the question about a transform tells is exactly what the rows of its table say (specs/Rows.antt), and what the
+-- transform then does. In order: the first value out of range; the row that holds; what the rows say; where nothing is
+-- refused: the part and the areas; where something is: nothing changes; the part is empty exactly there.
+-- Not here: the other calls (Rows, PairRows, DecodingRows).  Assumes nothing.
+use Prim.Native.Nat.{ℕ, _-_, _%_, _≤_, _<_}
+use native.Mathlib.Decide.{decLt}
+use native.Mathlib.Omega.{arith}
+use mathlib.Core.Path.{_≡_, refl, sym, _∙_, ap, subst}
+use mathlib.Core.Bool.{Bool, true, false, not, cond}
+use mathlib.Core.List.{List, [], _∷_}
+use mathlib.Core.Option.{Option, none, some}
+use mathlib.Core.Logic.{_≢_, _↔_}
+use lib.IntN.{ℤ}
+use lib.ListN.{length, drop}
+use lib.Pow.{pow-pos}
+use borrow.Author.Tests.{eq-eqb, ne-eqb}
+use denote.Ref.{RefT, ptr, now}
+use Rattle.range.specs.Below.{listBelow, filled}
+use Rattle.range.specs.Signed.{entry}
+use Rattle.range.proofs.Tests.{firstBelow-some, firstBelow-none}
+use Rattle.range.proofs.Lists.{length-listBelow}
+use Rattle.range.proofs.Filled.{drop-filled}
+use Rattle.rules.specs.Shape.{inM, carriers}
+use Rattle.rules.specs.Spectrum.{accepted, spectrumAt, stages}
+use Rattle.rules.specs.Outcome.{Outcome, gives, refuses, allowed}
+use Rattle.rules.specs.Table.{badValue}
+use Rattle.rules.specs.Refusal.{transformRefusal}
+use Rattle.rules.specs.Areas.{inFirst, firstAfter, secondAfter, partOf, partLength, partInFirst}
+use Rattle.transform.specs.Told.{Ran, Handed}
+use Rattle.transform.proofs.Outcomes.{refusal-shape, refusal-first-length, refusal-second-length, refusal-value}
+use Rattle.transform.proofs.Outcomes.{refusal-none, badValue-some, refusal-taken}
+use Rattle.theorems.specs.Rows.{FirstOutside, TransformRow, transform-1, transform-2, transform-7, transform-none}
+
+module _ (m : ℕ) (a b : List ℤ) where
+  abbrev told : Outcome (Unit {0})
+  told = transformRefusal m a (length b)
+
+  abbrev Row : Outcome (Unit {0}) → Type 0
+  Row = TransformRow m a b
+
+  outside-of : (i : ℕ) → badValue m a ≡ some i → FirstOutside m a i
+  outside-of i e =
+      let f = badValue-some m a i e in
+      record { inside = f .0; bad = f .1; before = f .2 }
+
+  outside-is : (i : ℕ) → FirstOutside m a i → badValue m a ≡ some i
+  unfolding badValue
+  outside-is i f =
+      firstBelow-some (carriers m) _ i (f .inside) (ap not (f .bad)) (λ j l. ap not (f .before j l))
+
+  inside-is : ((i : ℕ) → i < carriers m → accepted (entry a i) ≡ true) → badValue m a ≡ none
+  unfolding badValue
+  inside-is all = firstBelow-none (carriers m) _ (λ i l. ap not (all i l))
+
+  pub transform-row : Row told
+  transform-row = at (inM m) refl (decLt (length a) (carriers m)) (decLt (length b) (carriers m)) (badValue m a) refl
+    where
+      at : (t : Bool) → inM m ≡ t → Dec (length a < carriers m) → Dec (length b < carriers m) → (f : Option ℕ) →
+          badValue m a ≡ f → Row told
+      at false s _ _ f e = subst Row (refusal-shape m a (length b) s) (transform-1 s)
+      at true s (yes p) _ f e =
+          subst Row (refusal-first-length m a (length b) s p) (transform-2 s (λ l. omega (arith, l .0)))
+      at true s (no p) (yes q) f e =
+          subst Row (refusal-second-length m a (length b) s (omega arith) q) (transform-2 s (λ l. omega (arith, l .1)))
+      at true s (no p) (no q) (some i) e =
+          subst Row (refusal-value m a (length b) s (omega arith) (omega arith) i (sym e))
+          (transform-7 i s (omega arith) (omega arith) (outside-of i e))
+      at true s (no p) (no q) none e =
+          let free = sym (refusal-none m a (length b) s (omega arith) (omega arith) (sym e)) in
+          subst Row (sym free) (transform-none s (omega arith) (omega arith) (refusal-taken m a b free .values))
+
+  -- areas that are not both as long as N
+  short : inM m ≡ true → ((carriers m ≤ length a) × (carriers m ≤ length b) → ⊥) → refuses 2 [] ≡ told
+  short s n = at (decLt (length a) (carriers m)) (decLt (length b) (carriers m))
+    where
+      at : Dec (length a < carriers m) → Dec (length b < carriers m) → refuses 2 [] ≡ told
+      at (yes p) _ = refusal-first-length m a (length b) s p
+      at (no p) (yes q) = refusal-second-length m a (length b) s (omega arith) q
+      at (no p) (no q) = absurd (n (omega arith, omega arith))
+
+  pub transform-only : {o : Outcome (Unit {0})} → Row o → o ≡ told
+  transform-only (transform-1 s) = refusal-shape m a (length b) s
+  transform-only (transform-2 s n) = short s n
+  transform-only (transform-7 i s p q f) = refusal-value m a (length b) s p q i (sym (outside-is i f))
+  transform-only (transform-none s p q all) = refusal-none m a (length b) s p q (sym (inside-is all))
+
+  -- nothing is refused
+  module _ (free : Row allowed) where
+    is-free : told ≡ allowed
+    is-free = sym (transform-only free)
+
+    -- both areas, by whether the last stage writes the first
+    areas-by : (t : Bool) → inFirst m ≡ t →
+        (firstAfter m a b ≡ filled (carriers m) (cond t (spectrumAt m (entry a)) (stages m (m - 1) (entry a))) a)
+        × (secondAfter m a b ≡ filled (carriers m) (cond t (stages m (m - 1) (entry a)) (spectrumAt m (entry a))) b)
+    unfolding firstAfter secondAfter
+    areas-by t e = (rw (is-free, e), rw (is-free, e))
+
+    pub areas-even : m % 2 ≡ 0 → (firstAfter m a b ≡ filled (carriers m) (spectrumAt m (entry a)) a)
+        × (secondAfter m a b ≡ filled (carriers m) (stages m (m - 1) (entry a)) b)
+    areas-even e = areas-by true (eq-eqb (m % 2) 0 e)
+
+    pub areas-odd : m % 2 ≡ 1 → (firstAfter m a b ≡ filled (carriers m) (stages m (m - 1) (entry a)) a)
+        × (secondAfter m a b ≡ filled (carriers m) (spectrumAt m (entry a)) b)
+    areas-odd e = areas-by false (ne-eqb (m % 2) 0 (λ z. omega (arith, e, z)))
+
+    pub tails-stay : (drop (carriers m) (firstAfter m a b) ≡ drop (carriers m) a)
+        × (drop (carriers m) (secondAfter m a b) ≡ drop (carriers m) b)
+    tails-stay =
+        let e = areas-by (inFirst m) refl in (
+          ap (drop (carriers m)) (e .0) ∙ drop-filled (carriers m) _ a,
+          ap (drop (carriers m)) (e .1) ∙ drop-filled (carriers m) _ b,
+        )
+
+    pub run-leaves : (n : ℕ) (a′ b′ : List ℤ) → Ran m a b n a′ b′ →
+        (n ≡ carriers m) × (a′ ≡ firstAfter m a b) × (b′ ≡ secondAfter m a b)
+    unfolding partLength
+    run-leaves n a′ b′ r = (r .count ∙ rw is-free refl, r .first, r .second)
+
+  -- something is refused
+  module _ (k : ℕ) (v : List ℕ) (refused : Row (refuses k v)) where
+    is-refused : told ≡ refuses k v
+    is-refused = sym (transform-only refused)
+
+    pub kept : (firstAfter m a b ≡ a) × (secondAfter m a b ≡ b)
+    unfolding firstAfter secondAfter
+    kept = (rw is-refused refl, rw is-refused refl)
+
+    pub run-keeps : (n : ℕ) (a′ b′ : List ℤ) → Ran m a b n a′ b′ → (n ≡ 0) × (a′ ≡ a) × (b′ ≡ b)
+    unfolding partLength
+    run-keeps n a′ b′ r = (r .count ∙ rw is-refused refl, r .first ∙ kept .0, r .second ∙ kept .1)
+
+    pub told-again : transformRefusal m (firstAfter m a b) (length (secondAfter m a b)) ≡ refuses k v
+    told-again = rw (kept .0, kept .1) is-refused
+
+module _ (m : ℕ) (x y r : RefT (List ℤ)) (h : Handed m x y r) where
+  pub part-spectrum : TransformRow m (now x) (now y) allowed →
+      now r ≡ listBelow (carriers m) (spectrumAt m (entry (now x)))
+  unfolding partOf
+  part-spectrum free = h .contents ∙ rw (is-free m (now x) (now y) free) refl
+
+  part-place : TransformRow m (now x) (now y) allowed → ptr r ≡ cond (inFirst m) (ptr x) (ptr y)
+  unfolding partInFirst
+  part-place free = h .place ∙ rw (is-free m (now x) (now y) free) refl
+
+  pub part-even : TransformRow m (now x) (now y) allowed → m % 2 ≡ 0 → ptr r ≡ ptr x
+  part-even free e = part-place free ∙ rw (eq-eqb (m % 2) 0 e) refl
+
+  pub part-odd : TransformRow m (now x) (now y) allowed → m % 2 ≡ 1 → ptr r ≡ ptr y
+  part-odd free e = part-place free ∙ rw (ne-eqb (m % 2) 0 (λ z. omega (arith, e, z))) refl
+
+  pub transform-keeps : (k : ℕ) (v : List ℕ) → TransformRow m (now x) (now y) (refuses k v) →
+      (now r ≡ []) × (ptr r ≡ ptr x)
+      × (firstAfter m (now x) (now y) ≡ now x) × (secondAfter m (now x) (now y) ≡ now y)
+  unfolding partOf partInFirst
+  transform-keeps k v refused =
+      let e = is-refused m (now x) (now y) k v refused in
+      let same = kept m (now x) (now y) k v refused in
+      (h .contents ∙ rw e refl, h .place ∙ rw e refl, same .0, same .1)
+
+  pub transform-empty : (now r ≡ []) ↔ (TransformRow m (now x) (now y) allowed → ⊥)
+  transform-empty = (λ e free. full e free, λ n. at (told m (now x) (now y)) (transform-row m (now x) (now y)) n)
+    where
+      full : now r ≡ [] → TransformRow m (now x) (now y) allowed → ⊥
+      full e free =
+          let n : carriers m ≡ 0 = sym (length-listBelow (carriers m) (spectrumAt m (entry (now x))))
+          ∙ ap length (sym (part-spectrum free) ∙ e) in
+          omega (arith, n, pow-pos m)
+
+      at : (o : Outcome (Unit {0})) → TransformRow m (now x) (now y) o → (TransformRow m (now x) (now y) allowed → ⊥) →
+          now r ≡ []
+      at (gives tt) row n = absurd (n row)
+      at (refuses k v) row n = transform-keeps k v row .0
