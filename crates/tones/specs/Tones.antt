@@ -1,15 +1,16 @@
 -- What a receiver could hear of a word: 01 "What the receiver hears". A value is made as a natural number, raised by
 -- 32,768, so that nothing is negated, and lowered at the end; what lies outside sixteen bits becomes its nearer end.
--- Defines:  next s              the generator's next number
---           seedAt s e          its e-th number from s on; s itself for e = 0
---           atMost x            a level or a noise: 32,768 where it is greater
---           side a up           the level a above 0 or below it, raised
---           tone a four w e     value e of the word w, raised: of place e where there are two phases, and where there are
---                               four the real and the imaginary part of its places by turns; 0 behind the word's end
---           moved v n s         a raised value off by at most n either way, drawn from s; not below 0
---           lowered v           the value that a raised one stands for
---           heardAt a n s four w e    value e of what is heard of w, at level a, with noise n drawn from s on
---           Heard c w d r d′    the promise of `hear`: the seed to go on with, and the values, in a slice that held d
+-- Defines:  next s                  the generator's next number
+--           seedAt s e              its e-th number from s on; s itself for e = 0
+--           atMost x                a level or a noise: 32,768 where it is greater
+--           side a up               the level a above 0 or below it, raised
+--           tone a four w e         value e of the word w, raised: of place e for two phases; for four the real and the
+--                                   imaginary part of its places by turns. Behind the word stand symbols 0
+--           moved v n s             a raised value off by at most n either way, drawn from s; not below 0
+--           lowered v               the value that a raised one stands for
+--           heardAt a n s four w e  value e of what is heard of w, at level a, with noise n drawn from s on
+--           Heard c w d r d′        what `hear` promises: the seed to go on with, and the values in the slice that
+--                                   held d
 -- Laws: proofs/ToneLaws.antt.  Assumes nothing: these are definitions.
 use Prim.Native.Nat.{ℕ, zero, suc, _+_, _-_, _*_, _/_, _%_, min}
 use mathlib.Core.Path.{_≡_}

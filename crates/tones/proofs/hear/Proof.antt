@@ -1,5 +1,6 @@
 -- `tones::hear` meets its contract: turn after turn the generator goes one number on and a value is written.
--- Invariant: a loop over the whole slice, which writes, stands at e, and the seed is the e-th. Measure: the values left.
+-- Invariant: a loop over the whole slice, which writes, stands at e, and the seed is the e-th. Measure: the values
+-- left.
 -- Assumes nothing.
 use Prim.Native.Nat.{_+_, _-_}
 use native.Mathlib.Omega.{arith}
