@@ -1,14 +1,14 @@
 -- The table of the paths in use: rows of pathRow for m = 2, 3, .., end to end, and where each m begins.
 -- That the code's constants are these is computed where the code reads them (steps).
--- In order: what a path in use is; the table and the starts; a place of the table lies inside; what stands there; the
--- steps of a path in use.  Assumes nothing.
+-- In order: what a path in use is; the steps of any other; the table and the starts; a place of the table lies inside;
+-- what stands there; the steps of a path in use.  Assumes nothing.
 use Prim.Native.Nat.{ℕ, _+_, _-_, _≤_, _<_}
 use native.Mathlib.Omega.{arith}
 use mathlib.Core.Path.{_≡_, _∙_, ap}
-use mathlib.Core.Bool.{true}
+use mathlib.Core.Bool.{true, false}
 use mathlib.Core.List.{List, []}
 use lib.Dec.{ltb}
-use lib.ListN.{getD}
+use lib.ListN.{getD, replicate}
 use borrow.Author.Tests.{ltb-true, lt-ltb, le-leb}
 use Rattle.range.specs.Below.{sumBelow, listBelow, rowsBelow}
 use Rattle.range.proofs.Sums.{sumBelow-lt}
@@ -22,6 +22,10 @@ pub inUse-range : (m n : ℕ) → inUse m n ≡ true → (2 ≤ m) × (m ≤ gre
 inUse-range m n e =
     let r = inM-range m (and-left (inM m) (ltb n (pathsInUse m)) e) in
     (r .0, r .1, ltb-true n (pathsInUse m) (and-right (inM m) (ltb n (pathsInUse m)) e))
+
+pub stepsOf-unused : (m n : ℕ) → inUse m n ≡ false → replicate greatestM 0 ≡ stepsOf m n
+unfolding stepsOf
+stepsOf-unused m n e = rw e
 
 -- the numbers m from 2 on, counted from 0
 abbrev inUseFrom2 : ℕ → ℕ

@@ -97,8 +97,8 @@ pub fn message_of(h: u32, m: u32, label: u64) -> MessageNumber
     MessageNumber(label)
 }
 
-// a - b modulo q, for a and b below q. For other numbers, too, it is rules' `minus`: b counts as at most q, and a number
-// modulo 0 is itself.
+// a - b modulo q, for a and b below q. For other numbers, too, it is rules' `minus`: b counts as at most q, and a
+// number modulo 0 is itself.
 pub fn minus(q: u64, a: u8, b: u8) -> u64
     ensures { λ r. ⌜ r ≡ minus q a b ⌝ }
 {

@@ -1,8 +1,10 @@
 // Soft values for the programs: what a receiver could hear of a word, or of nothing but noise. 01 "What the receiver
-// hears". A value is made as a natural number, raised by 32,768, and lowered at the end, so nothing is negated; what
-// lies outside the range becomes its nearer end. Noise comes from a linear congruential generator, so a seed gives the
-// same values everywhere.
+// hears". Noise comes from a linear congruential generator, so a seed gives the same values everywhere. Contracts cite
+// specs/Tones.antt, which says how a value is made.
 ghost use Prim.Native.Nat.{_≤_};
+ghost use mathlib.Core.Path.{_≡_};
+ghost use lib.ListN.{getD};
+ghost use Rattle.tones.specs.Tones.{next, atMost, side, tone, moved, lowered, Heard};
 
 // The value 0, raised.
 const ZERO: u64 = 32768;
@@ -17,7 +19,9 @@ pub struct Channel {
 
 // Fills y with what is heard of the word: two phases where y has a value for each place, else four, with two values for
 // each. Places behind the word count as symbol 0. Answers the seed to go on with.
-pub fn hear(channel: Channel, word: &[u8], y: &mut [i16]) -> u64 {
+pub fn hear(channel: Channel, word: &[u8], y: &mut [i16]) -> u64
+    ensures { λ r. ⌜ Heard channel (now (word .entry)) (now (y .entry)) r (now (y .exit)) ⌝ }
+{
     let level = channel.level;
     let noise = channel.noise;
     let mut seed = channel.seed;
@@ -31,25 +35,9 @@ pub fn hear(channel: Channel, word: &[u8], y: &mut [i16]) -> u64 {
     seed
 }
 
-// Fills y with two values by turns.
-pub fn alternate(even: i16, odd: i16, y: &mut [i16]) {
-    let mut e = 0;
-    while e < y.len() {
-        y[e] = turn(even, odd, e);
-        e += 1;
-    }
-}
-
-fn turn(even: i16, odd: i16, e: usize) -> i16 {
-    if e % 2 == 0 {
-        return even;
-    }
-    odd
-}
-
 // Value e of the word, raised: that of place e for two phases, for four the real and the imaginary part by turns.
 fn tone(level: u64, four: bool, word: &[u8], e: usize) -> u64
-    ensures { λ r. ⌜ r ≤ 65536 ⌝ }
+    ensures { λ r. ⌜ r ≡ tone level four (now (word .entry)) e ⌝ }
 {
     if !four {
         return side(level, symbol(word, e) == 0);
@@ -61,20 +49,24 @@ fn tone(level: u64, four: bool, word: &[u8], e: usize) -> u64
     side(level, s < 2)
 }
 
-fn symbol(word: &[u8], i: usize) -> usize {
+fn symbol(word: &[u8], i: usize) -> usize
+    ensures { λ r. ⌜ r ≡ getD (now (word .entry)) i 0 ⌝ }
+{
     if i < word.len() {
         return wide(word[i]);
     }
     0
 }
 
-fn wide(s: u8) -> usize {
+fn wide(s: u8) -> usize
+    ensures { λ r. ⌜ r ≡ s ⌝ }
+{
     s as usize
 }
 
 // The level above 0 or below it, raised.
 fn side(level: u64, up: bool) -> u64
-    ensures { λ r. ⌜ r ≤ 65536 ⌝ }
+    ensures { λ r. ⌜ r ≡ side level up ⌝ }
 {
     let size = bounded(level);
     if up {
@@ -86,6 +78,7 @@ fn side(level: u64, up: bool) -> u64
 // A raised value off by at most `noise` either way; not below 0.
 fn moved(value: u64, noise: u64, seed: u64) -> u64
     requires { ⌜ value ≤ 65536 ⌝ }
+    ensures { λ r. ⌜ r ≡ moved value noise seed ⌝ }
 {
     let size = bounded(noise);
     let sum = value + seed / 1024 % (2 * size + 1);
@@ -96,7 +89,9 @@ fn moved(value: u64, noise: u64, seed: u64) -> u64
 }
 
 // The value that a raised one stands for.
-fn lowered(value: u64) -> i16 {
+fn lowered(value: u64) -> i16
+    ensures { λ r. ⌜ r ≡ lowered value ⌝ }
+{
     if 65535 < value {
         return 32767;
     }
@@ -104,7 +99,7 @@ fn lowered(value: u64) -> i16 {
 }
 
 fn bounded(x: u64) -> u64
-    ensures { λ r. ⌜ r ≤ 32768 ⌝ }
+    ensures { λ r. ⌜ r ≡ atMost x ⌝ }
 {
     if 32768 < x {
         return 32768;
@@ -113,6 +108,8 @@ fn bounded(x: u64) -> u64
 }
 
 // The next number of the generator.
-fn next(seed: u64) -> u64 {
+fn next(seed: u64) -> u64
+    ensures { λ r. ⌜ r ≡ next seed ⌝ }
+{
     (seed % 2147483648 * 1103515245 + 12345) % 2147483648
 }

@@ -10,8 +10,8 @@ use borrow.Author.Tests.{not-true, not-false}
 use Rattle.range.specs.Below.{sumBelow, listBelow, rowsBelow}
 use Rattle.rules.specs.Shape.{greatestM, pathBits, pathsInUse}
 use Rattle.rules.specs.Path.{keep, without, orders, upTo, paths, pathAt}
-use Rattle.paths.specs.Steps.{pathRow, stepsOf}
-use Rattle.paths.proofs.PathTable.{inUse-range, table, starts, start-lt, table-at, stepsOf-used}
+use Rattle.paths.specs.Steps.{pathRow}
+use Rattle.paths.proofs.PathTable.{inUse-range, stepsOf-unused, table, starts, start-lt, table-at, stepsOf-used}
 use Rattle.paths.proofs.steps.Statement.{statement}
 use Rattle.paths.proofs.steps.Tie as tie
 
@@ -19,8 +19,7 @@ in-use-requires : tie.Need-in-use-requires
 in-use-requires c κs = search needs
 
 returns : tie.Need-returns
-unfolding stepsOf
-returns c = rw (sym (c .before .in-use .ensures) ∙ not-true _ (c .if1 .taken))
+returns c = stepsOf-unused _ _ (sym (c .before .in-use .ensures) ∙ not-true _ (c .if1 .taken))
 
 -- past the test the path is in use
 used : (c : tie.Else1) → let args = c .before .before .args in

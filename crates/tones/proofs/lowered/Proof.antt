@@ -1,6 +1,6 @@
 -- `tones::lowered` meets its contract: a number below 65,536 less 32,768 fits 16 bits.
 -- Assumes nothing.
-use Prim.Native.Nat.{ℕ, _<_}
+use Prim.Native.Nat.{ℕ, _<_, min}
 use native.Mathlib.Omega.{arith}
 use mathlib.Core.Path.{_≡_}
 use lib.IntN.{pos, _-ℤ_}
@@ -10,6 +10,7 @@ use mir.Val.{SFits, toZ}
 use mir.ValLaws.{toZ-ofZ}
 use borrow.Author.Needs.{needs}
 use Rattle.range.proofs.SumsSigned.{mag-difference}
+use Rattle.tones.specs.Tones.{lowered}
 use Rattle.tones.proofs.lowered.Statement.{statement}
 use Rattle.tones.proofs.lowered.Tie as tie
 
@@ -30,7 +31,8 @@ below : (c : tie.Else1) → c .before .args .value < 65536
 below c = omega (arith, c .if1 .left)
 
 returns : tie.Need-returns
-returns c = search needs
+unfolding lowered
+returns c = let e : min (c .before .args .value) 65535 ≡ 65535 = omega (arith, c .if1 .taken) in rw e
 
 cast-result : tie.Need-cast-result
 cast-result c = search needs
@@ -46,7 +48,12 @@ cast-result-2 c =
     rw (read v (below c), toZ-ofZ w32 (pos v -ℤ pos 32768) (fits-32 v (below c))) (fits-16 v (below c))
 
 returns-2 : tie.Need-returns-2
-returns-2 c = search needs
+unfolding lowered
+returns-2 c =
+    let v = c .before .args .value in
+    let e : min v 65535 ≡ v = omega (arith, below c) in
+    rw (e, read v (below c), toZ-ofZ w32 (pos v -ℤ pos 32768) (fits-32 v (below c)))
+    (toZ-ofZ w16 (pos v -ℤ pos 32768) (fits-16 v (below c)))
 
 pub lowered-spec : {M : Type 1} → statement M
 lowered-spec = tie.close (tie.spec returns cast-result sub-result cast-result-2 returns-2)

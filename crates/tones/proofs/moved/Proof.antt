@@ -4,6 +4,7 @@ use Prim.Native.Nat.{_+_, _*_, _/_}
 use native.Mathlib.Nat.{mod-lt}
 use native.Mathlib.Omega.{arith}
 use borrow.Author.Needs.{needs}
+use Rattle.tones.specs.Tones.{moved}
 use Rattle.tones.proofs.moved.Statement.{statement}
 use Rattle.tones.proofs.moved.Tie as tie
 
@@ -25,10 +26,12 @@ add-sum-2 c =
     omega (arith, c .before .pre, c .bounded .ensures, mod-lt (c .before .args .seed / 1024) {m = n} (omega arith))
 
 returns : tie.Need-returns
-returns c = search needs
+unfolding moved
+returns c = rw (← c .before .bounded .ensures) (omega (arith, c .if1 .taken))
 
 returns-2 : tie.Need-returns-2
-returns-2 c = search needs
+unfolding moved
+returns-2 c = rw (← c .before .bounded .ensures)
 
 pub moved-spec : {M : Type 1} → statement M
 moved-spec =

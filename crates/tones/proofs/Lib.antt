@@ -1,0 +1,2 @@
+-- Laws of the soft values.
+pub mod ToneLaws
