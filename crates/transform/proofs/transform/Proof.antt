@@ -23,7 +23,8 @@ use prog.Wp.{Heap, Calls, Loops, WpFn, Tables}
 use ghost.Atoms.{Atoms}
 use contract.Monad.{Fun}
 use contract.Running.{givenOf, tables, tablesOf}
-use types.Kit.{Given, ‵, raw, given, _⊛_, some, later, _$_, _∵_, !, qed, by, move, use1, use2, split, pick, learn, await}
+use types.Kit.{Given, ‵, raw, given, _⊛_, some, later, _$_, _∵_, !, qed, by, move, use1, use2, split, pick, learn}
+use types.Kit.{await}
 use types.Run.{look, init, store, stop, from, lit, bin, and-then, no-more, assigns, land, returns, returns-within}
 use types.Run.{enter, params1, pass1, pass0, free1, free0}
 use types.Part.{whole, sub, look-in}
