@@ -1,14 +1,15 @@
 -- The call of `transform` by `look`, without the machine, and the end of the part. What the callee asks is made of what
 -- is had, and what it leaves is taken apart. Of the callee nothing is known but its contract.
 --     Transform        its contract.           given-transform ν g    what it binds outside, for ν and under g
---     Both xs ys       what is had of the areas x and y at these lists
+--     leftFirst, leftSecond    the areas x and y as the rules say that a transform leaves them
+--     Both x y         what is had of two areas, each with its token
 --     Meanwhile ν g    what is kept of them while they are lent for ν under g
---     lent             Both as it stands  ⊢ ⇛ ∃ ν g. what `transform` asks, for ν and under g ∗ Meanwhile ν g
+--     lent             Both x y  ⊢ ⇛ ∃ ν g. what `transform` asks, for ν and under g ∗ Meanwhile ν g
 --     Handing ν w r    `transform` has returned w, which is the part r
 --     Known g          what is known of the areas at last, while they are lent under g
 --     parted           what `transform` leaves  ⊢ ⇛ ∃ r. the part r, shared for ν, with all of ν's token ∗ Known g
---     over             [ν] ∗ Known g ∗ Meanwhile ν g  ⊢ ⇛ Both at the lists that the rules say: the part is over, and
---                      both areas are back, whole
+--     over             [ν] ∗ Known g ∗ Meanwhile ν g  ⊢ ⇛ Both leftFirst leftSecond: the part is over, and both areas
+--                      are back, whole
 -- The other calls of `look` are in Reading.antt and Asking.antt, its entry and exit in Edges.antt.  Assumes `Given`.
 use Prim.Native.Nat.{ℕ, _<_, _^_}
 use mathlib.Core.Path.{_≡_, refl}
@@ -32,7 +33,7 @@ use types.Tokens.{lft-new, lft-end}
 use denote.Laws.{Is, shows}
 use denote.Plain.{uint-makes}
 use denote.Builtin.{u32, i32}
-use denote.Ref.{RefT}
+use denote.Ref.{RefT, at-last}
 use denote.Slice.{ShrSlice}
 use denote.Steps.{owned, peeks, heard, nothing}
 use denote.Triple.Spec.{tripleOf}
@@ -46,6 +47,12 @@ use Rattle.transform.proofs.transform as transform
 use Rattle.caller.proofs.Sharing.{Had, HadShr}
 
 module _ (m : ℕ) (x y : RefT (List ℤ)) where
+  abbrev pub leftFirst : RefT (List ℤ)
+  leftFirst = at-last x (firstAfter m (x .now) (y .now))
+
+  abbrev pub leftSecond : RefT (List ℤ)
+  leftSecond = at-last y (secondAfter m (x .now) (y .now))
+
   -- what is known of the areas at last, while they are lent under g
   abbrev pub Known : GName × GName → Fml
   Known g = AtLast m (under x (g .0)) (under y (g .1))
@@ -54,13 +61,13 @@ module _ (m : ℕ) (x y : RefT (List ℤ)) where
   abbrev pub Handing : ℕ → Val → RefT (List ℤ) → Type 0
   Handing ν w r = Is (ShrSlice erased (ν ∷ []) i32) r (w ∷ []) × (r .now ≡ partOf m (x .now) (y .now))
 
-module _ (κ₀ κ₁ : Lft) (q₀ q₁ : Share) (x y : RefT (List ℤ)) where
-  -- what is kept of the areas while they are lent for ν under g
-  abbrev pub Meanwhile : ℕ → GName × GName → Fml
-  Meanwhile ν g = fsep (Kept-of i32 κ₀ (ν ∷ []) q₀ x (g .0)) (Kept-of i32 κ₁ (ν ∷ []) q₁ y (g .1))
+module _ (κ₀ κ₁ : Lft) (q₀ q₁ : Share) where
+  -- what is kept of the areas x and y while they are lent for ν under g
+  abbrev pub Meanwhile : RefT (List ℤ) → RefT (List ℤ) → ℕ → GName × GName → Fml
+  Meanwhile x y ν g = fsep (Kept-of i32 κ₀ (ν ∷ []) q₀ x (g .0)) (Kept-of i32 κ₁ (ν ∷ []) q₁ y (g .1))
 
-  abbrev pub Both : {M : Type 1} (𝓤 : URA M) (H : Heap 𝓤) (A : Atoms 𝓤) → List ℤ → List ℤ → SProp 𝓤
-  Both 𝓤 H A xs ys = sep 𝓤 (Had 𝓤 H A i32 κ₀ q₀ x xs) (Had 𝓤 H A i32 κ₁ q₁ y ys)
+  abbrev pub Both : {M : Type 1} (𝓤 : URA M) (H : Heap 𝓤) (A : Atoms 𝓤) → RefT (List ℤ) → RefT (List ℤ) → SProp 𝓤
+  Both 𝓤 H A x y = sep 𝓤 (Had 𝓤 H A i32 κ₀ q₀ x) (Had 𝓤 H A i32 κ₁ q₁ y)
 
 module _ {M : Type 1} (𝓤 : URA M) (H : Heap 𝓤) (A : Atoms 𝓤) (mem : Memory → SProp 𝓤) (go : Routine → Fun 𝓤) where
   abbrev pub Transform : Contract 𝓤
@@ -74,9 +81,6 @@ module _ {M : Type 1} (𝓤 : URA M) (H : Heap 𝓤) (A : Atoms 𝓤) (mem : Mem
 
   infixr 35 _∗_
   module _ (W : Given 𝓤 H A) (κ₀ κ₁ : Lft) (q₀ q₁ : Share) (m : ℕ) (x y : RefT (List ℤ)) where
-    abbrev Have : List ℤ → List ℤ → SProp 𝓤
-    Have = Both κ₀ κ₁ q₀ q₁ x y 𝓤 H A
-
     abbrev pub given-transform : ℕ → GName × GName → Transform .Ghost
     given-transform ν g = (((ν ∷ [], tt), (fullShare, tt), tt, passed m x y g, vals m x y), tt)
 
@@ -93,9 +97,9 @@ module _ {M : Type 1} (𝓤 : URA M) (H : Heap 𝓤) (A : Atoms 𝓤) (mem : Mem
     abbrev Lent : ℕ → GName × GName → SProp 𝓤
     Lent ν g = Transform .pre (given-transform ν g) ∗ ⟦ Meanwhile κ₀ κ₁ q₀ q₁ x y ν g ⟧
 
-    pub lent : m < 2 ^ 32 → ent 𝓤 (Have (x .now) (y .now)) (H .⇛ (ex 𝓤 (λ (ν : ℕ). ex 𝓤 (Lent ν))))
+    pub lent : m < 2 ^ 32 → ent 𝓤 (Both κ₀ κ₁ q₀ q₁ 𝓤 H A x y) (H .⇛ (ex 𝓤 (λ (ν : ℕ). ex 𝓤 (Lent ν))))
     lent m-fits =
-        qed W (raw (Had 𝓤 H A i32 κ₀ q₀ x (x .now)) ∷ raw (Had 𝓤 H A i32 κ₁ q₁ y (y .now)) ∷ []) ∵ updating ! $
+        qed W (raw (Had 𝓤 H A i32 κ₀ q₀ x) ∷ raw (Had 𝓤 H A i32 κ₁ q₁ y) ∷ []) ∵ updating ! $
         lft-new ! tt (λ ν. move ! (1 ∷ []) $
         use1 W (later (some (λ (γ : GName).
         ‵ (Own (ν ∷ []) i32 (under x γ)) ⊛ ‵ (Kept-of i32 κ₀ (ν ∷ []) q₀ x γ))))
@@ -133,15 +137,16 @@ module _ {M : Type 1} (𝓤 : URA M) (H : Heap 𝓤) (A : Atoms 𝓤) (mem : Mem
         move ! (2 ∷ 0 ∷ []) $ join ! $ keep ! (0 ∷ 2 ∷ []) $ at-once ! $ show ! (Parted ν g w) r $
         check ! (is, handed .contents) $ done !))))
 
-    -- ---- the part is over: what the areas hold by the rules
-    abbrev a′ : List ℤ
-    a′ = firstAfter m (x .now) (y .now)
+    -- the part is over
+    abbrev x′ : RefT (List ℤ)
+    x′ = leftFirst m x y
 
-    abbrev b′ : List ℤ
-    b′ = secondAfter m (x .now) (y .now)
+    abbrev y′ : RefT (List ℤ)
+    y′ = leftSecond m x y
 
     pub over : (ν : ℕ) (g : GName × GName) → ent 𝓤
-        (A .lft (ν ∷ []) fullShare ∗ ⟦ Known m x y g ⟧ ∗ ⟦ Meanwhile κ₀ κ₁ q₀ q₁ x y ν g ⟧) (H .⇛ (Have a′ b′))
+        (A .lft (ν ∷ []) fullShare ∗ ⟦ Known m x y g ⟧ ∗ ⟦ Meanwhile κ₀ κ₁ q₀ q₁ x y ν g ⟧)
+        (H .⇛ (Both κ₀ κ₁ q₀ q₁ 𝓤 H A x′ y′))
     over ν g =
         qed W (‵ (flft (ν ∷ []) fullShare) ∷ ‵ (Known m x y g) ∷ ‵ (Meanwhile κ₀ κ₁ q₀ q₁ x y ν g) ∷ []) ∵
         updating ! $ lft-end ! tt $
@@ -149,8 +154,8 @@ module _ {M : Type 1} (𝓤 : URA M) (H : Heap 𝓤) (A : Atoms 𝓤) (mem : Mem
         move ! (2 ∷ []) $ fsplit ! $ move ! (4 ∷ []) $ fsplit ! $
         -- [what is kept of x, and of y; the last lists of x, and of y; ν is dead, twice]
         move ! (4 ∷ 0 ∷ 2 ∷ []) $
-        use3 W (later (given (length a′ ≡ length (x .now)) (raw (Had 𝓤 H A i32 κ₀ q₀ x a′))))
-        (backs 𝓤 H A W i32 κ₀ (ν ∷ []) q₀ x (g .0) a′) $ await ! tt $ learn ! (λ _. move ! (3 ∷ 1 ∷ 2 ∷ []) $
-        use3 W (later (given (length b′ ≡ length (y .now)) (raw (Had 𝓤 H A i32 κ₁ q₁ y b′))))
-        (backs 𝓤 H A W i32 κ₁ (ν ∷ []) q₁ y (g .1) b′) $ await ! tt $ learn ! (λ _. move ! (1 ∷ 0 ∷ []) $ at-once ! $
-        done !))
+        use3 W (later (given (length (x′ .now) ≡ length (x .now)) (raw (Had 𝓤 H A i32 κ₀ q₀ x′))))
+        (backs 𝓤 H A W i32 κ₀ (ν ∷ []) q₀ x (g .0) (x′ .now)) $ await ! tt $ learn ! (λ _. move ! (3 ∷ 1 ∷ 2 ∷ []) $
+        use3 W (later (given (length (y′ .now) ≡ length (y .now)) (raw (Had 𝓤 H A i32 κ₁ q₁ y′))))
+        (backs 𝓤 H A W i32 κ₁ (ν ∷ []) q₁ y (g .1) (y′ .now)) $ await ! tt $ learn ! (λ _. move ! (1 ∷ 0 ∷ []) $
+        at-once ! $ done !))

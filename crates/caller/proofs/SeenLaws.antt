@@ -1,6 +1,6 @@
 -- What `look` sees. In order: only one outcome is promised; where nothing is refused, the two numbers in the rules' own
--- words, entry 0 of the spectrum and entry 0 of what stood after stage m - 1; of a refused transform the total is 0,
--- and the other number and both areas are seen as they were.
+-- words, entry 0 of the spectrum and entry 0 of what stood after stage m - 1; of a refused transform the total is 0 and
+-- the other number is read of its area as it was; both areas stay.
 -- Assumes nothing.
 use Prim.Native.Nat.{ℕ, _-_}
 use mathlib.Core.Path.{_≡_, refl, sym, _∙_}
@@ -17,6 +17,8 @@ use Rattle.rules.specs.Spectrum.{spectrumAt, stages}
 use Rattle.rules.specs.Outcome.{refuses, allowed}
 use Rattle.rules.specs.Refusal.{transformRefusal}
 use Rattle.rules.specs.Areas.{inFirst, firstAfter, secondAfter, partOf}
+use Rattle.transform.specs.Told.{Ran}
+use Rattle.transform.proofs.Parts.{ran-refused}
 use Rattle.caller.specs.declared.Ends.{Ends}
 use Rattle.caller.specs.Seen.{Seen}
 
@@ -48,7 +50,12 @@ module _ (m : ℕ) (a b a′ b′ : List ℤ) (r : Ends) (s : Seen m a b r a′ 
     pub seen-kept : r .kept ≡ stages m (m - 1) (entry a) 0
     seen-kept = s .kept ∙ kept-of (inFirst m) refl
 
-  pub seen-refused : (k : ℕ) (v : List ℕ) → transformRefusal m a (length b) ≡ refuses k v →
-      (r .total ≡ pos 0) × (r .kept ≡ cond (inFirst m) (entry b 0) (entry a 0)) × (a′ ≡ a) × (b′ ≡ b)
-  unfolding partOf firstAfter secondAfter
-  seen-refused k v e = (s .total ∙ rw e, s .kept ∙ rw e, s .first ∙ rw e, s .second ∙ rw e)
+  module _ (k : ℕ) (v : List ℕ) (e : transformRefusal m a (length b) ≡ refuses k v) where
+    pub seen-refused : (r .total ≡ pos 0) × (r .kept ≡ cond (inFirst m) (entry b 0) (entry a 0))
+    unfolding partOf firstAfter secondAfter
+    seen-refused = (s .total ∙ rw e, s .kept ∙ rw e)
+
+    pub seen-stays : (a′ ≡ a) × (b′ ≡ b)
+    seen-stays =
+        let ran : Ran m a b 0 a b = ran-refused m a b k v e in
+        (s .first ∙ sym (ran .first), s .second ∙ sym (ran .second))

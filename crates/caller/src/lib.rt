@@ -1,5 +1,5 @@
-// A caller's view of the transform: it uses the part, and then, once the part is over, the two areas, and its own
-// contract is plain. So the resource in the transform's promise is enough to say what the areas hold afterwards.
+// A caller's view of the transform: it uses the part, and then, once the part is over, the two areas. Its own contract
+// is plain and says both areas whole, so the resource in the transform's promise tells its callers all that they hold.
 ghost use mathlib.Core.Path.{_≡_};
 ghost use mathlib.Core.Bool.{cond};
 ghost use Rattle.range.specs.Signed.{entry};
@@ -14,7 +14,7 @@ pub struct Ends {
 }
 
 // Entry 0 of the spectrum, and entry 0 of what stood before the last stage. Where the transform is refused: 0, and the
-// first entry of that area as it was; 0 where it is empty.
+// first entry of that area as it was; 0 where it is empty. The areas are left as the transform leaves them.
 pub fn look(m: u32, first: &mut [i32], second: &mut [i32]) -> Ends
     ensures { λ r. ⌜ Seen m (now (first .entry)) (now (second .entry)) r (now (first .exit)) (now (second .exit)) ⌝ }
 {

@@ -2,13 +2,14 @@
 -- at last is known, and the front of the one that holds the spectrum is shared for all the time that their loan has
 -- left. The two steps are the kit's (borrow.Rule.Slice.Handed and Prefix), which leave the machine value out.
 --     Front κ x n zs γ    what the front of x owns, as a shared slice of n entries, the list zs, under the name γ
---     fronts-out       any two areas: the front n of x, shared, and the last lists of both
 --     part m x y t γ   the part of the areas x and y, under the name γ, in the first where t is true
 --     Part m x y t κ n γ    what it owns, as a slice of n entries shared for κ
---     hands            of the transform's areas, from what `run` promises: the part that 01 says, and `AtLast`
+--     left-promised    what `run` leaves in the areas is what the transform promises of them
+--     fronts-out       any two areas: the front n of x, shared, and the last lists of both
+--     hands            of the transform's areas, from what `run` promises: the part that 01 says, and both last lists
 -- Of the rules' definitions it uses the laws of Parts.antt alone.  Assumes `Given`.
 use Prim.Native.Nat.{ℕ}
-use mathlib.Core.Path.{_≡_, refl, sym, ap, subst}
+use mathlib.Core.Path.{_≡_, refl, sym, _∙_, ap, subst}
 use mathlib.Core.Bool.{Bool, true, false, cond}
 use mathlib.Core.List.{List, [], _∷_}
 use lib.IntN.{ℤ}
@@ -49,6 +50,13 @@ module _ (m : ℕ) (x y : RefT (List ℤ)) (t : Bool) where
   abbrev pub Part : Lft → ℕ → GName → Fml
   Part κ n γ = ShrSlice erased κ i32 .own (part γ) (sliceVal (cond t (x .ptr) (y .ptr)) n ∷ [])
 
+-- what `run` leaves in the areas is what the transform promises of them
+pub left-promised : (m : ℕ) (x y : RefT (List ℤ)) {n : ℕ} {xs ys : List ℤ} → Ran m (x .now) (y .now) n xs ys →
+    AtLastOf x y xs ys ≡ AtLast m x y
+left-promised m x y {n} {xs} {ys} ran =
+    ap (λ (l : List ℤ). AtLastOf x y l ys) (ran .first)
+    ∙ ap (λ (l : List ℤ). AtLastOf x y (firstAfter m (x .now) (y .now)) l) (ran .second)
+
 module _ {M : Type 1} (𝓤 : URA M) (H : Heap 𝓤) (A : Atoms 𝓤) (W : Given 𝓤 H A) (κ : Lft) (q : Share) where
   module _ (x y : RefT (List ℤ)) (xs ys zs : List ℤ) (n : ℕ) where
     abbrev Cut : GName → SProp 𝓤
@@ -76,12 +84,13 @@ module _ {M : Type 1} (𝓤 : URA M) (H : Heap 𝓤) (A : Atoms 𝓤) (W : Given
         move ! (2 ∷ 3 ∷ []) $ fjoin ! $ move ! (1 ∷ 2 ∷ 0 ∷ []) $ at-once ! $ show ! Cut δ $ done !))
 
   module _ (m : ℕ) (x y : RefT (List ℤ)) where
-    abbrev Out : Bool → ℕ → GName → SProp 𝓤
-    Out t n γ = sep 𝓤 (sem 𝓤 H A (Part m x y t κ n γ)) (sep 𝓤 (A .lft κ q) (sem 𝓤 H A (AtLast m x y)))
-
     -- from the areas at the lists of z, a part of as many entries as z says
+    abbrev Out : Bool → ℕ × List ℤ × List ℤ → GName → SProp 𝓤
+    Out t z γ =
+        sep 𝓤 (sem 𝓤 H A (Part m x y t κ (z .0) γ)) (sep 𝓤 (A .lft κ q) (sem 𝓤 H A (AtLastOf x y (z .1) (z .2))))
+
     abbrev Hands : Bool → ℕ × List ℤ × List ℤ → Type 1
-    Hands t z = ent 𝓤 (Both 𝓤 H A κ q x y (z .1) (z .2)) (H .⇛ (ex 𝓤 (Out t (z .0))))
+    Hands t z = ent 𝓤 (Both 𝓤 H A κ q x y (z .1) (z .2)) (H .⇛ (ex 𝓤 (Out t z)))
 
     abbrev n : ℕ
     n = partLength m (x .now) (y .now)
@@ -105,7 +114,7 @@ module _ {M : Type 1} (𝓤 : URA M) (H : Heap 𝓤) (A : Atoms 𝓤) (W : Given
         (fronts-out y x ys xs zs n (partOf-second m (x .now) (y .now) e) (length-partOf m (x .now) (y .now))) $
         await ! tt $ pick ! (λ γ. split3 ! $ move ! (2 ∷ []) $ fsplit ! $ move ! (1 ∷ 0 ∷ []) $ fjoin ! $
         -- [both last lists; the part; the token]
-        move ! (1 ∷ 2 ∷ 0 ∷ []) $ at-once ! $ show ! (Out false n) γ $ done !)
+        move ! (1 ∷ 2 ∷ 0 ∷ []) $ at-once ! $ show ! (Out false (n, xs, ys)) γ $ done !)
 
     pub hands : (t : Bool) → partInFirst m (x .now) (y .now) ≡ t → {z : ℕ × List ℤ × List ℤ} →
         Ran m (x .now) (y .now) (z .0) (z .1) (z .2) → Hands t z

@@ -12,3 +12,4 @@ pub mod Again
 pub mod Calling
 pub mod Handing
 pub mod Walking
+pub mod Edges

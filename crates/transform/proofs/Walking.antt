@@ -2,7 +2,7 @@
 --     to-end           the head of the context goes behind all the rest
 --     becomes          a local's value is written as one that it equals
 --     copies           an operand that is a local
---     fronts           `p = &x.0.*;  t = {p, c}`, as the front end writes `&mut x[..c]`
+--     fronts           `p = &x.0.*;  t = {p, c}`, as the front end writes `&x[..c]`
 --     reborrows        `p = &x.0.*;  t = {p, x.1}`, as it writes the reborrow of a slice x
 --     leaves-if        `if c { .. return .. }` and the rest: the arm runs, or the rest does
 --     allocates        all the locals are allocated: they stand in turn, two entries each, behind the context

@@ -33,7 +33,7 @@ use sound.WpLaws.{FmC, fmOf, WpFn-mono}
 use denote.Plain.{uint-vals, uint-tells}
 use denote.Signed.{sint-lawful}
 use denote.Builtin.{u32, i32}
-use denote.Ref.{RefT, at-last}
+use denote.Ref.{RefT}
 use denote.Slice.{sliceVal, slice-vals, Room, mut-slice-tells, shr-slice-lawful}
 use denote.Steps.{only}
 use denote.Exit.{yes}
@@ -44,15 +44,13 @@ use denote.Triple.Call.{calls-at}
 use denote.Triple.Table.{entered, cited}
 use denote.Triple.Walked.{goes-none, goes-slice, Walks, walked, walk-meets}
 use Rattle.range.specs.Signed.{entry}
-use Rattle.rules.specs.Areas.{firstAfter, secondAfter}
-use Rattle.transform.proofs.Parts.{length-firstAfter, length-secondAfter}
 use Rattle.transform.proofs.Walking.{to-end, becomes, copies, reborrows, allocates, frees-held, sized}
 use Rattle.transform.proofs.transform.Symbol as transform-def
 use Rattle.transform.proofs.transform.Symbol.{name as #transform·transform}
 use Rattle.transform.proofs.transform.Met as transform-thm
 use Rattle.caller.proofs.Sharing.{HadShr}
-use Rattle.caller.proofs.Parting.{Transform, Both, Meanwhile, Known, Handing, given-transform, lent, parted}
-use Rattle.caller.proofs.Parting.{over}
+use Rattle.caller.proofs.Parting.{leftFirst, leftSecond, Both, Meanwhile, Known, Handing}
+use Rattle.caller.proofs.Parting.{Transform, given-transform, lent, parted, over}
 use Rattle.caller.proofs.Reading.{Front, Fronted, given-front, to-front, front-over}
 use Rattle.caller.proofs.Asking.{Other, Answered, Shared, given-other, to-other, other-over}
 use Rattle.caller.proofs.Edges.{stayed, Entered, Post, opened, exits}
@@ -69,18 +67,9 @@ use Rattle.caller.proofs.look.Code as code
 
 module _ {M : Type 1} (𝓤 : URA M) (H : Heap 𝓤) (A : Atoms 𝓤) (W : Given 𝓤 H A) (mem : Memory → SProp 𝓤)
     (go : Routine → Fun 𝓤) (κ₀ κ₁ : Lft) (q₀ q₁ : Share) (m : ℕ) (x y : RefT (List ℤ)) (m-fits : m < 2 ^ 32) where
-  abbrev Have : List ℤ → List ℤ → SProp 𝓤
-  Have = Both κ₀ κ₁ q₀ q₁ x y 𝓤 H A
-
-  -- what the areas hold by the rules, once the part is over
-  abbrev a′ : List ℤ
-  a′ = firstAfter m (x .now) (y .now)
-
-  abbrev b′ : List ℤ
-  b′ = secondAfter m (x .now) (y .now)
-
-  abbrev Start : SProp 𝓤
-  Start = Entered 𝓤 H A κ₀ κ₁ q₀ q₁ m x y
+  -- both areas as `transform` leaves them
+  abbrev After : SProp 𝓤
+  After = Both κ₀ κ₁ q₀ q₁ 𝓤 H A (leftFirst m x y) (leftSecond m x y)
 
   -- what the three contracts bind outside
   abbrev to-transform : ℕ → GName × GName → Transform 𝓤 H A mem go .Ghost
@@ -90,18 +79,18 @@ module _ {M : Type 1} (𝓤 : URA M) (H : Heap 𝓤) (A : Atoms 𝓤) (W : Given
   to-read ν = given-front 𝓤 H A mem go W (ν ∷ []) fullShare
 
   abbrev to-ask : ℕ → GName × GName → Other 𝓤 H A mem go .Ghost
-  to-ask = given-other 𝓤 H A mem go W κ₀ κ₁ q₀ q₁ m x y a′ b′
+  to-ask = given-other 𝓤 H A mem go W κ₀ κ₁ q₀ q₁ m x y
 
   module _ (C : Calls 𝓤 H) (Λ : Loops 𝓤 H) (fm : FmC 𝓤 H (W .laws) C)
       (known-transform : Triple 𝓤 (C #transform·transform) (Transform 𝓤 H A mem go))
       (known-front : Triple 𝓤 (C #caller·front) (Front 𝓤 H A mem go))
       (known-other : Triple 𝓤 (C #caller·other) (Other 𝓤 H A mem go)) where
-    walk : Room i32 (length (x .now)) → Room i32 (length (y .now)) → ent 𝓤 Start
+    walk : Room i32 (length (x .now)) → Room i32 (length (y .now)) → ent 𝓤 (Entered 𝓤 H A κ₀ κ₁ q₀ q₁ m x y)
         (WpFn 𝓤 H C Λ code.function (vint w32 m ∷ sliceVal (x .ptr) (length (x .now)) ∷
         sliceVal (y .ptr) (length (y .now)) ∷ []) (Post 𝓤 H A κ₀ κ₁ q₀ q₁ m x y mem go))
     walk roomy roomy′ =
-        qed W (raw Start ∷ []) ∵
-        use1 W (raw (Have (x .now) (y .now))) (opened 𝓤 H A κ₀ κ₁ q₀ q₁ m x y W) $
+        qed W (raw (Entered 𝓤 H A κ₀ κ₁ q₀ q₁ m x y) ∷ []) ∵
+        use1 W (raw (Both κ₀ κ₁ q₀ q₁ 𝓤 H A x y)) (opened 𝓤 H A κ₀ κ₁ q₀ q₁ m x y W) $
         enter ! C Λ code.function _ _ $ allocates ! (λ _. to-end ! $
         -- from here on local i stands at 2 · i, and what is had besides from 30 on, behind them all
         params1 ! $ pass1 ! (init ! 2 refl (tt, record { fits = m-fits })) $
@@ -128,7 +117,7 @@ module _ {M : Type 1} (𝓤 : URA M) (H : Heap 𝓤) (A : Atoms 𝓤) (W : Given
         calls-at ! fm (Front 𝓤 H A mem go) known-front (to-read ν r) (and-then ! (copies ! 9 refl) (no-more !)) (λ v.
         use1 W (later (some (λ (z : ℤ). given (Fronted (r .now) v z) (‵ (flft (ν ∷ []) fullShare)))))
         (front-over 𝓤 H A mem go W (ν ∷ []) fullShare r v) $ await ! tt $ pick ! (λ z. learn ! (λ fronted.
-        move ! (0 ∷ 31 ∷ 32 ∷ []) $ use3 W (later (raw (Have a′ b′)))
+        move ! (0 ∷ 31 ∷ 32 ∷ []) $ use3 W (later (raw After))
         (over 𝓤 H A mem go W κ₀ κ₁ q₀ q₁ m x y ν g) $ await ! tt $ to-end ! $
         land ! (from ! (stop !)) (init ! 10 refl (sint-lawful 𝓤 H A W w32 .typed z (v ∷ []) (fronted .0) .0)) $
         becomes ! 10 refl (ap only (fronted .0 .0)) $
@@ -136,14 +125,12 @@ module _ {M : Type 1} (𝓤 : URA M) (H : Heap 𝓤) (A : Atoms 𝓤) (W : Given
         reborrows ! refl 4 refl (init ! 22 refl (tt, tt)) (copies ! 22 refl) refl (init ! 24 refl (sized (roomy .0))) $
         reborrows ! refl 6 refl (init ! 26 refl (tt, tt)) (copies ! 26 refl) refl (init ! 28 refl (sized (roomy′ .0))) $
         move ! (30 ∷ []) $ use1 W (later (some (λ (ξ : ℕ). some (λ (h : GName × GName).
-        raw (Other 𝓤 H A mem go .pre (to-ask ξ h)) ⊛ ‵ (Shared κ₀ κ₁ q₀ q₁ (at-last x a′) (at-last y b′) ξ)))))
-        (to-other 𝓤 H A mem go W κ₀ κ₁ q₀ q₁ m x y a′ b′ m-fits (length-firstAfter m (x .now) (y .now))
-        (length-secondAfter m (x .now) (y .now))) $ await ! tt $ pick ! (λ ξ. pick ! (λ h. split ! $
+        raw (Other 𝓤 H A mem go .pre (to-ask ξ h)) ⊛ ‵ (Shared κ₀ κ₁ q₀ q₁ (leftFirst m x y) (leftSecond m x y) ξ)))))
+        (to-other 𝓤 H A mem go W κ₀ κ₁ q₀ q₁ m x y m-fits) $ await ! tt $ pick ! (λ ξ. pick ! (λ h. split ! $
         calls-at ! fm (Other 𝓤 H A mem go) known-other (to-ask ξ h)
         (and-then ! (copies ! 4 refl) (and-then ! (copies ! 26 refl) (and-then ! (copies ! 30 refl) (no-more !)))) (λ u.
-        use2 W (later (some (λ (k : ℤ). given (Answered m a′ b′ u k) (raw (Have a′ b′)))))
-        (other-over 𝓤 H A mem go W κ₀ κ₁ q₀ q₁ m x y a′ b′ ξ h u) $ await ! tt $ pick ! (λ k.
-        learn ! (λ answered. to-end ! $
+        use2 W (later (some (λ (k : ℤ). given (Answered m (leftFirst m x y) (leftSecond m x y) u k) (raw After))))
+        (other-over 𝓤 H A mem go W κ₀ κ₁ q₀ q₁ m x y ξ h u) $ await ! tt $ pick ! (λ k. learn ! (λ answered. to-end ! $
         land ! (from ! (stop !)) (init ! 12 refl (sint-lawful 𝓤 H A W w32 .typed k (u ∷ []) (answered .0) .0)) $
         becomes ! 12 refl (ap only (answered .0 .0)) $
         -- `Ends { total, kept }`
@@ -156,9 +143,7 @@ module _ {M : Type 1} (𝓤 : URA M) (H : Heap 𝓤) (A : Atoms 𝓤) (W : Given
           ),
         )) $
         returns ! (looks ! 0 refl) $ frees-held ! 15 _ refl $ free0 ! $
-        by ! (exits 𝓤 H A κ₀ κ₁ q₀ q₁ m x y mem go W m-fits z k v u (fronted .0) (answered .0) a′ b′
-        (length-firstAfter m (x .now) (y .now)) (length-secondAfter m (x .now) (y .now))
-        (record {
+        by ! (exits 𝓤 H A κ₀ κ₁ q₀ q₁ m x y mem go W m-fits z k v u (fronted .0) (answered .0) (record {
           total = fronted .1 ∙ ap (λ (part : List ℤ). entry part 0) (handing .1);
           kept = answered .1;
           first = refl;
