@@ -1,7 +1,7 @@
--- Laws of the soft values. In order: a tone is at most 65,536, that of a level above 0 or below it first; one number of
+-- Laws of the soft values. In order: a level above 0 or below it, and a tone, are at most 65,536; one number of
 -- the generator more; one value more.
 -- Assumes nothing.
-use Prim.Native.Nat.{ℕ, suc, _+_, _/_, _%_, _≤_}
+use Prim.Native.Nat.{ℕ, _+_, _/_, _%_, _≤_}
 use native.Mathlib.Numerals.{add-one}
 use native.Mathlib.Omega.{arith}
 use mathlib.Core.Path.{_≡_, sym, _∙_, ap}

@@ -1,7 +1,6 @@
 -- `tones::side` meets its contract: a level of at most 32,768 leaves neither 64 bits nor the natural numbers.
 -- Assumes nothing.
 use native.Mathlib.Omega.{arith}
-use mathlib.Core.Path.{ap}
 use borrow.Author.Needs.{needs}
 use Rattle.tones.proofs.side.Statement.{statement}
 use Rattle.tones.proofs.side.Tie as tie
