@@ -12,7 +12,7 @@ ghost use Rattle.lines.specs.Front.{HasFront};
 const RAISE: u64 = 2147483648;
 
 // A space and a list. The entries go to the front of the slice.
-pub fn take_list(line: &[u8], before: Piece, list: &mut [i32]) -> Piece
+pub(super) fn take_list(line: &[u8], before: Piece, list: &mut [i32]) -> Piece
     ensures { λ r. ⌜ HasFront (r .value) (now (list .exit)) ⌝ }
 {
     let entries = take_entries(line, take_open(line, before), list);

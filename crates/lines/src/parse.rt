@@ -27,7 +27,7 @@ pub const MISSING: Piece = Piece {
 
 impl Piece {
     // The same piece with another value.
-    pub fn with(self, value: u64) -> Self
+    pub(super) fn with(self, value: u64) -> Self
         ensures { λ r. ⌜ r .value ≡ value ⌝ }
     {
         Piece {
@@ -53,7 +53,7 @@ fn found(value: u64, end: usize) -> Piece {
 }
 
 // Whether a piece is there, and nothing behind it.
-pub fn ends(line: &[u8], last: Piece) -> bool {
+pub(super) fn ends(line: &[u8], last: Piece) -> bool {
     if !last.there {
         return false;
     }
@@ -61,7 +61,7 @@ pub fn ends(line: &[u8], last: Piece) -> bool {
 }
 
 // A name, at the front of the line.
-pub fn take_name(line: &[u8], name: &[u8]) -> Piece {
+pub(super) fn take_name(line: &[u8], name: &[u8]) -> Piece {
     let mut at = 0;
     while at < name.len() {
         if line.len() <= at {
@@ -75,7 +75,7 @@ pub fn take_name(line: &[u8], name: &[u8]) -> Piece {
     found(0, at)
 }
 
-pub fn take_byte(line: &[u8], before: Piece, byte: u8) -> Piece {
+pub(super) fn take_byte(line: &[u8], before: Piece, byte: u8) -> Piece {
     if !before.there {
         return MISSING;
     }
@@ -90,24 +90,24 @@ pub fn take_byte(line: &[u8], before: Piece, byte: u8) -> Piece {
 }
 
 // A space and an opening bracket.
-pub fn take_open(line: &[u8], before: Piece) -> Piece {
+pub(super) fn take_open(line: &[u8], before: Piece) -> Piece {
     take_byte(line, take_byte(line, before, b' '), b'[')
 }
 
 // A space and a number of 32 bits.
-pub fn take_small(line: &[u8], before: Piece) -> Piece
+pub(super) fn take_small(line: &[u8], before: Piece) -> Piece
     ensures { λ r. ⌜ r .value ≤ 4294967295 ⌝ }
 {
     take_number(line, take_byte(line, before, b' '), LARGEST_32)
 }
 
 // A space and a number of 64 bits.
-pub fn take_large(line: &[u8], before: Piece) -> Piece {
+pub(super) fn take_large(line: &[u8], before: Piece) -> Piece {
     take_number(line, take_byte(line, before, b' '), LARGEST_64)
 }
 
 // A number of one or more digits, up to the most.
-pub fn take_number(line: &[u8], before: Piece, most: u64) -> Piece
+pub(super) fn take_number(line: &[u8], before: Piece, most: u64) -> Piece
     ensures { λ r. ⌜ r .value ≤ most ⌝ }
 {
     if !before.there {

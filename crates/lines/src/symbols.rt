@@ -8,7 +8,7 @@ ghost use Prim.Native.Nat.{_≤_};
 ghost use Rattle.lines.specs.Front.{HasFront};
 
 // A space and a word. The symbols go to the front of the slice.
-pub fn take_word(line: &[u8], before: Piece, word: &mut [u8]) -> Piece
+pub(super) fn take_word(line: &[u8], before: Piece, word: &mut [u8]) -> Piece
     ensures { λ r. ⌜ HasFront (r .value) (now (word .exit)) ⌝ }
 {
     let symbols = take_symbols(line, take_open(line, before), word);

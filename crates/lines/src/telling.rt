@@ -18,7 +18,7 @@ use show::signed;
 use show::symbols;
 
 // With what the slice holds after the call.
-pub fn tell_written(answer: Written, word: &[u8]) {
+pub(super) fn tell_written(answer: Written, word: &[u8]) {
     match answer {
         Written::Done => say(b"done"),
         Written::Refused(kind) => refusal(kind),
@@ -28,7 +28,7 @@ pub fn tell_written(answer: Written, word: &[u8]) {
     say(b"]");
 }
 
-pub fn tell_paired(answer: Paired) {
+pub(super) fn tell_paired(answer: Paired) {
     match answer {
         Paired::Yes => say(b"yes"),
         Paired::No => say(b"no"),
@@ -48,7 +48,7 @@ fn tell_which(which: Which) {
     }
 }
 
-pub fn tell_reading(answer: Reading) {
+pub(super) fn tell_reading(answer: Reading) {
     match answer {
         Reading::Found(message) => tell_message(message),
         Reading::Refused(kind) => refusal(kind),
@@ -60,7 +60,7 @@ fn tell_message(message: MessageNumber) {
     number(message.0);
 }
 
-pub fn tell_matched(answer: Matched) {
+pub(super) fn tell_matched(answer: Matched) {
     match answer {
         Matched::Found(found) => {
             let message = found.message;
@@ -73,7 +73,7 @@ pub fn tell_matched(answer: Matched) {
     }
 }
 
-pub fn tell_heard(answer: Heard) {
+pub(super) fn tell_heard(answer: Heard) {
     match answer {
         Heard::Found(found) => {
             let message = found.message;

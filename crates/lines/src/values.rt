@@ -14,7 +14,7 @@ enum Short {
 }
 
 // Whether a line is such; it is then answered.
-pub fn answered(line: &[u8]) -> bool {
+pub(super) fn answered(line: &[u8]) -> bool {
     let mut entries = [0i32; MOST];
     let h = take_small(line, take_name(line, b"soft"));
     let m = take_small(line, h);

@@ -27,7 +27,7 @@ enum Call {
 }
 
 // Whether a line is one of these; it is then answered.
-pub fn answered(line: &[u8]) -> bool {
+pub(super) fn answered(line: &[u8]) -> bool {
     if called(line, b"encode", Call::Encode) {
         return true;
     }

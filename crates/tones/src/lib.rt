@@ -4,7 +4,7 @@
 ghost use Prim.Native.Nat.{_≤_};
 ghost use mathlib.Core.Path.{_≡_};
 ghost use lib.ListN.{getD};
-ghost use Rattle.tones.specs.Tones.{next, atMost, side, tone, moved, lowered, Heard};
+ghost use Rattle.tones.specs.Tones.{next, bounded, side, tone, moved, lowered, Sounded};
 
 // The value 0, raised.
 const ZERO: u64 = 32768;
@@ -20,7 +20,7 @@ pub struct Channel {
 // Fills y with what is heard of the word: two phases where y has a value for each place, else four, with two values for
 // each. Places behind the word count as symbol 0. Answers the seed to go on with.
 pub fn hear(channel: Channel, word: &[u8], y: &mut [i16]) -> u64
-    ensures { λ r. ⌜ Heard channel (now (word .entry)) (now (y .entry)) r (now (y .exit)) ⌝ }
+    ensures { λ r. ⌜ Sounded channel (now (word .entry)) (now (y .entry)) r (now (y .exit)) ⌝ }
 {
     let level = channel.level;
     let noise = channel.noise;
@@ -99,7 +99,7 @@ fn lowered(value: u64) -> i16
 }
 
 fn bounded(x: u64) -> u64
-    ensures { λ r. ⌜ r ≡ atMost x ⌝ }
+    ensures { λ r. ⌜ r ≡ bounded x ⌝ }
 {
     if 32768 < x {
         return 32768;

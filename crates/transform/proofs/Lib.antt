@@ -7,7 +7,6 @@ pub mod Stages
 pub mod Between
 pub mod Parts
 pub mod Unique
-pub mod Tied
 pub mod Again
 pub mod Calling
 pub mod Handing

@@ -10,7 +10,7 @@ use mir.Syntax.{w16}
 use mir.ValLaws.{toZ-ofZ}
 use denote.Ref.{now}
 use borrow.Author.Needs.{needs}
-use Rattle.range.proofs.Writing.{Filling, filling-none, filling-turn, written-all}
+use Rattle.range.proofs.Fills.{Filling, filling-none, filling-turn, fills-all}
 use Rattle.tones.specs.Tones.{seedAt, heardAt}
 use Rattle.tones.proofs.ToneLaws.{tone-le, seedAt-next, heardAt-is}
 use Rattle.tones.proofs.hear.Statement.{statement}
@@ -81,7 +81,7 @@ returns c =
     let e : head .loop .e ≡ n = omega arith in
     record {
       seed = inv .1 ∙ ap (seedAt (head .before .before .args .channel .seed)) e;
-      values = written-all _ _ _ n _ (inv .0 .written) refl e;
+      values = fills-all _ _ _ n _ (inv .0 .fills) refl e;
     }
 
 pub hear-spec : {M : Type 1} → statement M
