@@ -105,7 +105,7 @@ struct Areas<F> {
     transform: F,
 }
 
-impl<F: for<'a> Fn(u32, &'a mut [i32], &'a mut [i32]) -> &'a mut [i32]> Way<i32> for Areas<F> {
+impl<F: for<'a> Fn(u32, &'a mut [i32], &'a mut [i32]) -> &'a [i32]> Way<i32> for Areas<F> {
     #[inline]
     fn answer(&mut self, input: &[i32]) -> &[i32] {
         let n = 1 << self.m;
@@ -117,8 +117,8 @@ impl<F: for<'a> Fn(u32, &'a mut [i32], &'a mut [i32]) -> &'a mut [i32]> Way<i32>
 
 /// The library's transform; a refusal gives no numbers, which is no spectrum.
 #[inline]
-fn library<'a>(m: u32, first: &'a mut [i32], second: &'a mut [i32]) -> &'a mut [i32] {
-    sharqudel::transform(m, first, second).unwrap_or(&mut [])
+fn library<'a>(m: u32, first: &'a mut [i32], second: &'a mut [i32]) -> &'a [i32] {
+    sharqudel::transform(m, first, second).unwrap_or(&[])
 }
 
 /// The transform: values of the whole range; then all zeros and both ends of the range.

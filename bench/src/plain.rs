@@ -93,7 +93,7 @@ pub fn add_hard(ring: &mut Ring<u8>, shape: Shape) {
 }
 
 /// The transform's stages between two areas, as 01 tells them. Gives the area that holds the spectrum.
-pub fn stages<'a>(m: u32, first: &'a mut [i32], second: &'a mut [i32]) -> &'a mut [i32] {
+pub fn stages<'a>(m: u32, first: &'a mut [i32], second: &'a mut [i32]) -> &'a [i32] {
     let n = 1 << m;
     let (mut from, mut to) = (&mut first[..n], &mut second[..n]);
     for k in 1..=m {
@@ -110,7 +110,7 @@ pub fn stages<'a>(m: u32, first: &'a mut [i32], second: &'a mut [i32]) -> &'a mu
 }
 
 /// The spectrum by its definition, from the first area to the second.
-pub fn sums<'a>(m: u32, first: &'a mut [i32], second: &'a mut [i32]) -> &'a mut [i32] {
+pub fn sums<'a>(m: u32, first: &'a mut [i32], second: &'a mut [i32]) -> &'a [i32] {
     let n = 1 << m;
     for (j, entry) in second[..n].iter_mut().enumerate() {
         *entry = 0;
@@ -122,5 +122,5 @@ pub fn sums<'a>(m: u32, first: &'a mut [i32], second: &'a mut [i32]) -> &'a mut 
             }
         }
     }
-    &mut second[..n]
+    &second[..n]
 }
