@@ -25,8 +25,8 @@ use Rattle.places.proofs.Flips.{flip, flip-lt, flip-flip, flip-shift, digit-fli
 use Rattle.paths.proofs.Times.{mem-of-times}
 use Rattle.paths.proofs.Members.{isPath-within, isPath-unique}
 use Rattle.words.proofs.Around.{around}
-use Rattle.words.proofs.Before.{stepBefore, stepBefore-same, stepBefore-in, stepBefore-cong, agree-cons}
-use Rattle.words.proofs.Before.{around-before}
+use Rattle.words.proofs.StepBefore.{stepBefore, stepBefore-same, stepBefore-in, stepBefore-cong, agree-cons}
+use Rattle.words.proofs.StepBefore.{around-before}
 
 abbrev pub pivot : ℕ → ℕ → List ℕ → ℕ → ℕ → ℕ
 pivot m f p u i = stepBefore (digit m i) (digit m (i + u)) f p

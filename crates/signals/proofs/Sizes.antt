@@ -1,12 +1,10 @@
 -- How large a correlation is: at most N times the largest soft value, for every shape. In order: what one symbol hears;
--- the correlation; the correlation of soft values of sixteen bits, which is at most N times 32,768.
--- Assumes nothing.
-use Prim.Native.Nat.{ℕ, zero, suc, _+_, _*_, _≤_, _<_}
+-- the correlation.  Assumes nothing.
+use Prim.Native.Nat.{ℕ, zero, suc, _+_, _*_, _≤_}
 use mathlib.Core.Bool.{Bool, true, false, cond}
 use mathlib.Core.List.{List}
 use lib.Dec.{eqb}
 use lib.IntN.{ℤ, natAbs}
-use lib.Signed.{mag, natAbs-le}
 use Rattle.range.specs.Signed.{entry}
 use Rattle.range.proofs.Sizes.{natAbs-neg, natAbs-negatedIf, natAbs-sumℤ}
 use Rattle.rules.specs.Shape.{carriers}
@@ -33,8 +31,3 @@ pub correlation-size : (h m : ℕ) (ys : List ℤ) (l b : ℕ) → ((i : ℕ) �
 unfolding correlation
 correlation-size h m ys l b small =
     natAbs-sumℤ (carriers m) b _ (λ i _. heard-size h ys i (wordAt h m l i) b small)
-
--- 01: for soft values of sixteen bits, from -32,768 to 32,767
-pub correlation-most : (h m : ℕ) (ys : List ℤ) (l : ℕ) → ((i : ℕ) → mag (entry ys i) < 32768) →
-    natAbs (correlation h m ys l) ≤ carriers m * 32768
-correlation-most h m ys l small = correlation-size h m ys l 32768 (λ i. natAbs-le (entry ys i) (small i))

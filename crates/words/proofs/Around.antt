@@ -4,7 +4,7 @@
 -- In order: a flip turns one digit over; the rest of a good list; a digit turned over and the others; the links, with
 -- and without one digit turned over, add up to what stands around it; what stands around one digit, with and without
 -- another turned over, adds up to the links of the two.
--- Not here: where two functions first differ (Before), the forms at four places (FourForms).  Assumes nothing.
+-- Not here: where two functions first differ (StepBefore), the forms at four places (FourForms).  Assumes nothing.
 use Prim.Native.Nat.{ℕ, suc, _+_, _*_, _%_, _≤_, suc-le-suc}
 use native.Mathlib.Decide.{ℕ-discrete}
 use native.Mathlib.Omega.{arith}

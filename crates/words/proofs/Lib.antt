@@ -8,5 +8,5 @@ pub mod Readings
 pub mod Used
 pub mod Partners
 pub mod Around
-pub mod Before
+pub mod StepBefore
 pub mod FourForms
