@@ -1,6 +1,7 @@
 -- How many paths there are: m ! / 2, for every m from 2 on; and the twelve of m = 4, written out.
 -- In order: the orders of n numbers are n ! many; tests of order; the orders of 1, .., m, none twice,
--- as many rising from first to last as falling; the law; the paths in use are among them; the paths of 4.
+-- as many rising from first to last as falling; the law; the paths in use are among them, and w is the greatest that
+-- lets them; the paths of 4.
 -- Not here: which lists are paths (Members), their order (Increasing).  Assumes nothing.
 use Prim.Native.Nat.{ℕ, zero, suc, _+_, _-_, _*_, _≤_, _<_}
 use native.Mathlib.Nat.{le-antisymm}
@@ -8,13 +9,13 @@ use native.Mathlib.Decide.{decLt}
 use native.Mathlib.Omega.{arith}
 use mathlib.Core.Path.{_≡_, refl, _∙_, ap, subst}
 use mathlib.Core.Logic.{_≢_}
-use mathlib.Core.Bool.{Bool, true, not}
+use mathlib.Core.Bool.{Bool, true, not, _&&_}
 use mathlib.Core.List.{List, [], _∷_, map, flatMap, reverse, List·Memᴰ}
 use lib.Dec.{T, leb, ltb}
 use lib.ListN.{length, length-map}
-use borrow.Author.Tests.{lt-ltb, le-ltb, leb-true}
+use borrow.Author.Tests.{lt-ltb, le-ltb, leb-true, ltb-true}
 use Rattle.range.specs.Below.{_!, listBelow, allBelow}
-use Rattle.range.proofs.Tests.{allBelow-at}
+use Rattle.range.proofs.Tests.{and-left, and-right, allBelow-at}
 use Rattle.rules.specs.Shape.{greatestM, inM, pathsInUse, pathBits}
 use Rattle.rules.proofs.Range.{inM-least, inM-le}
 use Rattle.rules.specs.Path.{headOf, lastOf, keep, without, orders, upTo, paths, Before}
@@ -95,20 +96,36 @@ module _ (m : ℕ) where
         length-keep-not rises falls (orders m (upTo m)) (λ p i. falls-not p h i),
       )
 
-inUse-test : allBelow (greatestM - 1) (λ i. leb (pathsInUse (i + 2) + pathsInUse (i + 2)) ((i + 2) !)) ≡ true
-unfolding allBelow pathBits _!
-inUse-test = refl
+-- twice 2^w is at most m !, and four times is above it
+enough : ℕ → Bool
+enough m = leb (2 * pathsInUse m) (m !)
+
+short : ℕ → Bool
+short m = ltb (m !) (4 * pathsInUse m)
+
+fits-test : allBelow (greatestM - 1) (λ i. enough (i + 2) && short (i + 2)) ≡ true
+unfolding allBelow pathBits _! enough short
+fits-test = refl
+
+fits-at : (m : ℕ) → T (inM m) → (enough m && short m) ≡ true
+fits-at m t =
+    let e : m - 2 + 2 ≡ m = omega (arith, inM-least m t) in
+    subst (λ (n : ℕ). (enough n && short n) ≡ true) e
+    (allBelow-at (greatestM - 1) _ fits-test (m - 2) (omega (arith, inM-least m t, inM-le m t)))
 
 -- the numbers of the paths in use are numbers of paths
 pub inUse-le : (m : ℕ) → T (inM m) → pathsInUse m ≤ length (paths m)
+unfolding enough
 inUse-le m t =
-    let two : 2 ≤ m = inM-least m t in
-    let e : m - 2 + 2 ≡ m = omega (arith, two) in
-    let i : m - 2 < greatestM - 1 = omega (arith, two, inM-le m t) in
-    let b : pathsInUse m + pathsInUse m ≤ m ! =
-    subst (λ (n : ℕ). pathsInUse n + pathsInUse n ≤ n !) e
-    (leb-true _ _ (allBelow-at (greatestM - 1) _ inUse-test (m - 2) i)) in
-    omega (arith, b, length-paths m two)
+    let b : 2 * pathsInUse m ≤ m ! = leb-true _ _ (and-left (enough m) (short m) (fits-at m t)) in
+    omega (arith, length-paths m (inM-least m t))
+
+-- and one bit more would not do: w is the greatest
+pub inUse-most : (m : ℕ) → T (inM m) → length (paths m) < 2 * pathsInUse m
+unfolding short
+inUse-most m t =
+    let b : m ! < 4 * pathsInUse m = ltb-true _ _ (and-right (enough m) (short m) (fits-at m t)) in
+    omega (arith, length-paths m (inM-least m t))
 
 -- the twelve of document 01
 pub paths-four : paths 4 ≡

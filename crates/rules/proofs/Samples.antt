@@ -1,5 +1,5 @@
 -- Small sums done by hand, of the rules that no starred case reaches: dictionary order, the spectrum and its stages, what
--- a four-phase symbol hears, Lee distance, the unstarred hard word of 01, the powers of a phase, autocorrelations,
+-- a four-phase symbol hears, refusal 6, Lee distance, the unstarred hard word of 01, the powers of a phase, autocorrelations,
 -- envelope powers, and clean soft values. What a transform leaves and refuses: AreaSamples.  Assumes nothing.
 use Prim.Native.Nat.{ℕ, suc}
 use mathlib.Core.Path.{_≡_, refl}
@@ -18,6 +18,8 @@ use Rattle.rules.specs.Envelope.{phaseAt, envelopePower}
 use Rattle.rules.specs.Soft.{heard, cleanAt, clean}
 use Rattle.rules.specs.Distance.{hamming, leeOf, lee, distance}
 use Rattle.rules.specs.Spectrum.{shared, spectrumAt, stage, stages}
+use Rattle.rules.specs.Outcome.{refuses}
+use Rattle.rules.specs.Refusal.{softRefusal, hardRefusal}
 
 -- 123 comes before 132, and that before 213
 first-paths : Before (1 ∷ 2 ∷ 3 ∷ []) (1 ∷ 3 ∷ 2 ∷ []) × Before (1 ∷ 3 ∷ 2 ∷ []) (2 ∷ 1 ∷ 3 ∷ [])
@@ -44,6 +46,11 @@ both-stages = refl
 four-phases : listBelow 4 (heard 2 (pos 1 ∷ pos 2 ∷ pos 5 ∷ pos 7 ∷ []) 1) ≡ pos 5 ∷ pos 7 ∷ negsuc 4 ∷ negsuc 6 ∷ []
 unfolding listBelow heard
 four-phases = refl
+
+-- eight phases are not decoded: 6, before the length is looked at
+octary-refused : (softRefusal 3 2 [] ≡ refuses 6 []) × (hardRefusal 3 2 [] ≡ refuses 6 [])
+unfolding softRefusal hardRefusal
+octary-refused = (refl, refl)
 
 -- 0 + 1 + 2 + 1 for four phases; of eight, 7 is 1 away, and 5 is 3
 lee-four : lee 2 4 (symbolAt (0 ∷ 1 ∷ 2 ∷ 3 ∷ [])) (symbolAt []) ≡ 4

@@ -8,7 +8,7 @@ use native.Mathlib.Omega.{arith}
 use mathlib.Core.Path.{_≡_, sym, _∙_, ap, ap₂}
 use mathlib.Core.Bool.{true, true≢false}
 use mathlib.Core.List.{List}
-use mathlib.Core.Logic.{_≢_, _↔_}
+use mathlib.Core.Logic.{_↔_}
 use lib.Dec.{eqb}
 use lib.IntN.{pos, _+ℤ_}
 use Rattle.range.specs.Below.{oneIf}
@@ -33,7 +33,6 @@ use Rattle.pair.specs.declared.Paired.{Paired}
 use Rattle.pair.specs.declared.Paired.the-variants.{Yes, No}
 use Rattle.pair.specs.Told.{pairedTold}
 use Rattle.pair.proofs.Pairs.{golayPair-iff, golayPair-cong, golayPair-self}
-use Rattle.pair.proofs.Outcomes.{pair-gives}
 use Rattle.pair.proofs.Told.{pairedTold-inj}
 use Rattle.theorems.specs.Names.{word, partner, Encodes, Partners}
 use Rattle.theorems.proofs.Slices.{wordOf-symbols, partnerOf-symbols, done-shape, done-message, done-word}
@@ -69,16 +68,17 @@ written-yes h m g d e w v t p q told =
 pub self-not-pair : (h m : ℕ) (a : ℕ → ℕ) → 1 ≤ h → 1 ≤ m → GolayPair h m a a → ⊥
 self-not-pair h m a p q pair = true≢false (sym (golayPair-iff h m a a .1 pair) ∙ golayPair-self h m a p q)
 
-pub self-not-yes : (h m : ℕ) (w : List ℕ) (t : Paired) → pairedTold t ≡ pairOutcome h m w w → t ≢ Yes
-self-not-yes h m w t told e =
-    let given = pair-gives h m w w true (sym told ∙ ap pairedTold e) in
-    let r = inShape-range h m (given .0) in
-    self-not-pair h m (symbolAt w) (r .h-least) (omega (arith, r .m-least)) (golayPair-iff h m _ _ .0 (given .1))
-
 module _ (h m : ℕ) (w v : List ℕ) (r : Paired) (a : Symbols h m w) (b : Symbols h m v)
     (told : pairedTold r ≡ pairOutcome h m w v) where
   given : pairedTold r ≡ gives (golayPair h m (symbolAt w) (symbolAt v))
   given = told ∙ sym (pair-tested h m w v a b)
+
+  pub yes-iff-pair : (r ≡ Yes) ↔ GolayPair h m (symbolAt w) (symbolAt v)
+  yes-iff-pair =
+      let test = golayPair-iff h m (symbolAt w) (symbolAt v) in (
+        λ e. test .0 (gives-inj (sym given ∙ ap pairedTold e)),
+        λ p. pairedTold-inj r Yes (given ∙ ap gives (test .1 p)),
+      )
 
   pub yes-iff-cancel : (r ≡ Yes) ↔ Cancel h m (symbolAt w) (symbolAt v)
   yes-iff-cancel = (
@@ -91,6 +91,12 @@ module _ (h m : ℕ) (w v : List ℕ) (r : Paired) (a : Symbols h m w) (b : Symb
     λ e. tested-false h m w v (a .shape) .0 (gives-inj (sym given ∙ ap pairedTold e)),
     λ n. pairedTold-inj r No (given ∙ ap gives (tested-false h m w v (a .shape) .1 n)),
   )
+
+pub self-no : (h m : ℕ) (w : List ℕ) (r : Paired) → Symbols h m w → pairedTold r ≡ pairOutcome h m w w → r ≡ No
+self-no h m w r a told =
+    let t = inShape-range h m (a .shape) in
+    pairedTold-inj r No (given h m w w r a a told
+    ∙ ap gives (golayPair-self h m (symbolAt w) (t .h-least) (omega (arith, t .m-least))))
 
 pub envelope-together : (h m g r s t : ℕ) → inShape h m ≡ true → g < messages h m → h ≤ r → t < halfTurn r →
     envelopePower h (carriers m) (word h m g) r s t +ℤ envelopePower h (carriers m) (partner h m g) r s t

@@ -1,5 +1,5 @@
 -- Every theorem of the index (specs/Theorems.antt) holds.  Assumes nothing.
-use Prim.Native.Nat.{ℕ, _*_}
+use Prim.Native.Nat.{ℕ}
 use native.Mathlib.Nat.{le-trans}
 use native.Mathlib.Omega.{arith}
 use mathlib.Core.Path.{_≡_, sym, _∙_, subst}
@@ -7,9 +7,10 @@ use mathlib.Core.List.{List, []}
 use mathlib.Core.Logic.{_↔_}
 use lib.Dec.{T}
 use lib.ListN.{length}
-use Rattle.rules.specs.Shape.{inM, carriers}
+use Rattle.range.specs.Below.{listBelow}
+use Rattle.rules.specs.Shape.{carriers}
 use Rattle.rules.specs.Label.{labelOf}
-use Rattle.rules.specs.Word.{wordOf, partnerOf, symbolAt}
+use Rattle.rules.specs.Word.{wordAt, wordOf, partnerOf}
 use Rattle.rules.specs.Distance.{distance}
 use Rattle.rules.specs.Outcome.{Outcome, gives, refuses}
 use Rattle.rules.specs.Refusal.{pairOutcome, readOutcome, transformRefusal, sendRefusal}
@@ -21,12 +22,13 @@ use Rattle.signals.proofs.Units.{unit-two, unit-four}
 use Rattle.signals.proofs.Noiseless.{clean-size}
 use Rattle.paths.proofs.Members.{path-iff}
 use Rattle.paths.proofs.Increasing.{paths-increasing}
-use Rattle.paths.proofs.Number.{length-paths, inUse-le}
-use Rattle.words.proofs.Labels.{coefficient-lt, constant-lt}
+use Rattle.paths.proofs.Number.{length-paths, inUse-le, inUse-most}
+use Rattle.words.proofs.Labels.{coefficient-lt, constant-lt, message-bits}
 use Rattle.words.proofs.Partners.{partnerOf-not-wordOf}
 use Rattle.golay.proofs.Autocorrelations.{cancel-iff-counts}
 use Rattle.spectrum.proofs.Entries.{stages-spectrum}
 use Rattle.distances.proofs.Apart.{hamming-apart, lee-apart}
+use Rattle.distances.proofs.Inject.{unused-not-wordOf}
 use Rattle.encoder.proofs.SentLaws.{sent-unique}
 use Rattle.pair.proofs.Told.{paired-unique}
 use Rattle.reader.proofs.Outcomes.{reading-unique}
@@ -40,16 +42,16 @@ use Rattle.theorems.specs.Demand3.{Demand3}
 use Rattle.theorems.specs.Transforms.{Transforms}
 use Rattle.theorems.specs.Further.{Further}
 use Rattle.theorems.specs.Theorems.{Theorems}
-use Rattle.theorems.proofs.Slices.{sent-writes, sent-keeps}
+use Rattle.theorems.proofs.Slices.{labelled-symbols, sent-writes, sent-keeps}
 use Rattle.theorems.proofs.Rows.{exactly, send-row, send-only, read-row, read-only, row-found, row-none}
 use Rattle.theorems.proofs.PairRows.{pair-row, pair-only}
 use Rattle.theorems.proofs.DecodingRows.{soft-exactly, hard-exactly}
 use Rattle.theorems.proofs.TransformRows.{transform-row, transform-only, areas-even, areas-odd, tails-stay}
-use Rattle.theorems.proofs.TransformRows.{run-leaves, run-keeps, told-again, part-spectrum, part-even, part-odd}
-use Rattle.theorems.proofs.TransformRows.{transform-keeps, transform-empty}
+use Rattle.theorems.proofs.TransformRows.{run-even, run-odd, run-keeps, question-again, part-spectrum, part-even}
+use Rattle.theorems.proofs.TransformRows.{part-odd, transform-keeps, transform-empty}
 use Rattle.theorems.proofs.Formula.{label-order-iff, parts-message, path-used, word-formula, partner-formula}
-use Rattle.theorems.proofs.Pairs.{word-partner, partner-cancels, written-yes, self-not-pair, self-not-yes}
-use Rattle.theorems.proofs.Pairs.{yes-iff-cancel, no-iff-not-cancel, envelope-together}
+use Rattle.theorems.proofs.Pairs.{word-partner, partner-cancels, written-yes, self-not-pair, self-no}
+use Rattle.theorems.proofs.Pairs.{yes-iff-pair, yes-iff-cancel, no-iff-not-cancel, envelope-together}
 use Rattle.theorems.proofs.Damage.{damage-two, damage-four}
 use Rattle.theorems.proofs.RoundTrips.{read-back, hard-back, soft-back, sixteen}
 
@@ -87,7 +89,7 @@ demand1 = record {
   hard-answers = λ h m w r e matches. matches-found h m w r matches e;
   encode-keeps = λ h m g d w r s. sent-keeps s;
   partner-keeps = λ h m g d w r s. sent-keeps s;
-  run-keeps = λ m a b n a′ b′ ran k v refused. run-keeps m a b k v refused n a′ b′ ran;
+  run-keeps = run-keeps;
   transform-keeps = transform-keeps;
   encode-one = λ h m g d r s w v. sent-unique h m g (wordOf h m g) d r s w v;
   partner-one = λ h m g d r s w v. sent-unique h m g (partnerOf h m g) d r s w v;
@@ -108,8 +110,9 @@ demand2 = record {
   before-asymm = λ p q. before-asymm;
   before-trans = λ p q s. before-trans;
   paths-number = λ m two. omega (arith, length-paths m two);
-  paths-used = λ m e. inUse-le m (subst T (sym e) tt);
+  paths-used = λ m e. let t = subst T (sym e) tt in (inUse-le m t, inUse-most m t);
   label-order = label-order-iff;
+  message-bits = message-bits;
   message-parts = λ h m g shape taken.
       (path-used h m g shape taken, (λ k. coefficient-lt h m (labelOf h m g) k), constant-lt h (labelOf h m g));
   parts-message = λ h m n c c0 shape. parts-message h m n c c0;
@@ -128,14 +131,19 @@ demand2 = record {
     λ p. row-none h m w (read-exactly h m w e (refuses 5 []) .0 p),
     λ p. read-exactly h m w e (refuses 5 []) .1 (read-5 (p .0) (p .1)),
   );
+  read-unused = λ h m l r shape unused listed e.
+      let t = inShape-range h m shape in
+      read-exactly h m (listBelow (carriers m) (wordAt h m l)) e (refuses 5 []) .1 (read-5 (labelled-symbols h m l shape)
+      (λ g b. unused-not-wordOf m (range-inM h m t) h l g (t .h-least) unused listed b));
   word-partner = word-partner;
   written-yes = written-yes;
   counts-iff-zero = λ h n a b u one. (cancel-iff-counts h n a b u one .1, cancel-iff-counts h n a b u one .0);
   partner-cancels = partner-cancels;
+  yes-iff-pair = λ h m w v r a b e. yes-iff-pair h m w v r a b e;
   yes-iff-cancel = λ h m w v r a b e. yes-iff-cancel h m w v r a b e;
   no-iff-not-cancel = λ h m w v r a b e. no-iff-not-cancel h m w v r a b e;
   self-not-pair = self-not-pair;
-  self-not-yes = self-not-yes;
+  self-no = self-no;
   soft-greatest = λ h m ys a hears. hears .greatest;
   hard-nearest = λ h m w a matches. matches .nearest;
 }
@@ -161,9 +169,10 @@ transform = record {
   stages-spectrum = stages-spectrum;
   areas-even = areas-even;
   areas-odd = areas-odd;
+  run-even = run-even;
+  run-odd = run-odd;
   tails-stay = tails-stay;
-  run-leaves = λ m a b n a′ b′ ran free. run-leaves m a b free n a′ b′ ran;
-  question-again = λ m a b r k v refused e. e ∙ told-again m a b k v refused;
+  question-again = λ m a b n a′ b′ r k v ran. question-again m a b n a′ b′ ran r k v;
 }
 
 further : Further

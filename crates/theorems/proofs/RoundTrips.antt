@@ -17,15 +17,14 @@ use Rattle.rules.specs.Place.{digit}
 use Rattle.rules.specs.Path.{keep, without, orders, upTo, paths, pathAt}
 use Rattle.rules.specs.Label.{labels, labelPath, coefficient, constant, labelOf}
 use Rattle.rules.specs.Word.{links, formAt, wordAt, wordOf, symbolAt}
-use Rattle.rules.specs.Symbols.{Symbols}
 use Rattle.rules.specs.Distance.{hamming, distance}
 use Rattle.rules.specs.Soft.{clean}
-use Rattle.rules.specs.Outcome.{gives, allowed}
+use Rattle.rules.specs.Outcome.{gives}
 use Rattle.rules.specs.Table.{badSymbol}
-use Rattle.rules.specs.Refusal.{readOutcome, hardRefusal}
+use Rattle.rules.specs.Refusal.{readOutcome}
 use Rattle.rules.specs.Decoding.{SoftAnswer, HardAnswer, Loud, Near}
 use Rattle.rules.proofs.Range.{InRange, inShape-range, range-inM}
-use Rattle.rules.proofs.SymbolLaws.{wordAt-lt, symbols-none}
+use Rattle.rules.proofs.SymbolLaws.{wordAt-lt, symbols-of-none}
 use Rattle.rules.proofs.DecodingLaws.{softOutcome-unique}
 use Rattle.signals.proofs.Metric.{distance-zero-of-agree, distance-comm, distance-triangle}
 use Rattle.signals.proofs.Noiseless.{length-clean, greatest-of-clean}
@@ -37,7 +36,7 @@ use Rattle.reader.specs.Told.{readingTold}
 use Rattle.decoder.specs.declared.Heard.{Heard}
 use Rattle.decoder.specs.declared.Matched.{Matched}
 use Rattle.decoder.specs.Told.{heardTold, matchedTold, Hears, Matches}
-use Rattle.decoder.proofs.Outcomes.{soft-allowed, hard-allowed}
+use Rattle.decoder.proofs.Outcomes.{soft-allowed}
 use Rattle.theorems.specs.Names.{word, Encodes}
 use Rattle.theorems.specs.Rows.{read-found}
 use Rattle.theorems.proofs.Slices.{wordOf-symbols, done-shape, done-message, done-word}
@@ -78,15 +77,10 @@ module _ (h m g : ℕ) (shape : inShape h m ≡ true) (inside : g < messages h m
             (λ i _. wordAt-lt h m k i),
       )
 
-  is : Symbols h m sent
-  is = wordOf-symbols h m g shape
-
   sent-near : h ≤ 2 → Near h m sent (record { message = g; distance = 0; tied = false })
   sent-near two =
-      let taken : hardRefusal h m sent ≡ allowed =
-      hard-allowed h m sent shape (λ e. omega (arith, e)) (is .long) (symbols-none h m sent is) in
       subst (λ (d : ℕ). Near h m sent (record { message = g; distance = d; tied = false })) sent-same
-      (near-of-damage h m g sent taken inside (λ k b n. rw sent-same (sent-apart k b n)))
+      (near-of-damage h m g sent two (wordOf-symbols h m g shape) inside (λ k b n. rw sent-same (sent-apart k b n)))
 
   sent-loud : (a : ℕ) → h ≤ 2 → 1 ≤ a →
       Loud h m (clean h m a sent) (record { message = g; correlation = pos (N * a); tied = false })
@@ -121,7 +115,8 @@ read-back h m g d w t s told =
 -- 01: h = 1, m = 4, hard 1001001000011101: one place is changed in message 0's word, and two is below 4
 pub sixteen : (r : Matched) → Matches 1 4 (1 ∷ 0 ∷ 0 ∷ 1 ∷ 0 ∷ 0 ∷ 1 ∷ 0 ∷ 0 ∷ 0 ∷ 0 ∷ 1 ∷ 1 ∷ 1 ∷ 0 ∷ 1 ∷ []) r →
     matchedTold r ≡ gives (record { message = 0; distance = 1; tied = false })
-unfolding hardRefusal badSymbol firstBelow hamming countBelow sumBelow wordAt formAt links pathAt paths orders upTo
+unfolding badSymbol firstBelow hamming countBelow sumBelow wordAt formAt links pathAt paths orders upTo
     listBelow without keep digit labelPath coefficient constant flatMap labelOf pathBits
 sixteen r =
-    damage-two 4 0 (1 ∷ 0 ∷ 0 ∷ 1 ∷ 0 ∷ 0 ∷ 1 ∷ 0 ∷ 0 ∷ 0 ∷ 0 ∷ 1 ∷ 1 ∷ 1 ∷ 0 ∷ 1 ∷ []) r refl (lit< tt) (lit< tt)
+    let w : List ℕ = 1 ∷ 0 ∷ 0 ∷ 1 ∷ 0 ∷ 0 ∷ 1 ∷ 0 ∷ 0 ∷ 0 ∷ 0 ∷ 1 ∷ 1 ∷ 1 ∷ 0 ∷ 1 ∷ [] in
+    damage-two 4 0 w r (symbols-of-none 1 4 w refl refl refl) (lit< tt) (lit< tt)

@@ -8,10 +8,13 @@ use mathlib.Core.Bool.{true}
 use mathlib.Core.List.{List}
 use lib.ListN.{length}
 use borrow.Author.Tests.{lt-leb}
+use Rattle.range.specs.Below.{listBelow}
+use Rattle.range.proofs.Lists.{length-listBelow, listBelow-at}
 use Rattle.rules.specs.Shape.{inShape, carriers, messages}
-use Rattle.rules.specs.Word.{wordOf, partnerOf}
+use Rattle.rules.specs.Word.{wordAt, wordOf, partnerOf}
 use Rattle.rules.specs.Symbols.{Symbols}
 use Rattle.rules.specs.Outcome.{refuses}
+use Rattle.rules.proofs.SymbolLaws.{wordAt-lt}
 use Rattle.words.proofs.Forms.{length-wordOf, length-partnerOf, wordOf-lt, partnerOf-lt}
 use Rattle.encoder.specs.declared.Written.{Written}
 use Rattle.encoder.specs.declared.Written.the-variants.{Done}
@@ -23,6 +26,14 @@ wordOf-symbols h m g shape = record { shape = shape; long = length-wordOf h m g;
 
 pub partnerOf-symbols : (h m g : ℕ) → inShape h m ≡ true → Symbols h m (partnerOf h m g)
 partnerOf-symbols h m g shape = record { shape = shape; long = length-partnerOf h m g; below = partnerOf-lt h m g }
+
+-- the word of any label, of a path in use or not
+pub labelled-symbols : (h m l : ℕ) → inShape h m ≡ true → Symbols h m (listBelow (carriers m) (wordAt h m l))
+labelled-symbols h m l shape = record {
+  shape = shape;
+  long = length-listBelow (carriers m) (wordAt h m l);
+  below = λ i b. rw (listBelow-at (carriers m) (wordAt h m l) i 0 b) (wordAt-lt h m l i);
+}
 
 module _ {h m g : ℕ} {word d w : List ℕ} (s : Sent h m g word d Done w) where
   pub done-shape : inShape h m ≡ true

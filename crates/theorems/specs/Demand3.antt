@@ -1,7 +1,6 @@
 -- DEMAND 3 (docs/RULES.md, D3; 001, Theorem 10): how far the words of different messages stand apart, and that hard
 -- decoding gives the message sent back where the damage is below half of that.
--- `hardRefusal h m w ≡ allowed` says that hard decoding refuses nothing: a shape of two or four phases in range, and N
--- symbols, each still below 2^h.
+-- `Symbols h m w` says that every symbol of w is still in range: N symbols below 2^h, of a shape in range.
 -- Defines:  Demand3    the claims
 -- Proved in proofs/Proved.antt.  Assumes nothing: these are definitions.
 use Prim.Native.Nat.{ℕ, _-_, _*_, _^_, _≤_, _<_}
@@ -11,9 +10,9 @@ use mathlib.Core.List.{List}
 use mathlib.Core.Logic.{_≢_}
 use Rattle.rules.specs.Shape.{inShape, carriers, messages}
 use Rattle.rules.specs.Word.{symbolAt}
+use Rattle.rules.specs.Symbols.{Symbols}
 use Rattle.rules.specs.Distance.{hamming, lee}
-use Rattle.rules.specs.Outcome.{gives, allowed}
-use Rattle.rules.specs.Refusal.{hardRefusal}
+use Rattle.rules.specs.Outcome.{gives}
 use Rattle.decoder.specs.declared.Matched.{Matched}
 use Rattle.decoder.specs.Told.{matchedTold, Matches}
 use Rattle.theorems.specs.Names.{word}
@@ -27,10 +26,10 @@ pub record Demand3 : Type 0 where
       2 ^ (m - 1) ≤ lee h (carriers m) (word h m g) (word h m g′)
   -- DAMAGE. Two phases: where every symbol is still in range and twice the changed places is below 2^(m-2), hard decoding
   -- gives the message sent, the number of changed places, and no tie.
-  pub damage-two : (m g : ℕ) (w : List ℕ) (r : Matched) → hardRefusal 1 m w ≡ allowed → g < messages 1 m →
+  pub damage-two : (m g : ℕ) (w : List ℕ) (r : Matched) → Symbols 1 m w → g < messages 1 m →
       let d = hamming (carriers m) (symbolAt w) (word 1 m g) in 2 * d < 2 ^ (m - 2) → Matches 1 m w r →
       matchedTold r ≡ gives (record { message = g; distance = d; tied = false })
   -- Four phases: the same with the Lee weight of the damage in place of the number, where twice it is below 2^(m-1).
-  pub damage-four : (m g : ℕ) (w : List ℕ) (r : Matched) → hardRefusal 2 m w ≡ allowed → g < messages 2 m →
+  pub damage-four : (m g : ℕ) (w : List ℕ) (r : Matched) → Symbols 2 m w → g < messages 2 m →
       let d = lee 2 (carriers m) (symbolAt w) (word 2 m g) in 2 * d < 2 ^ (m - 1) → Matches 2 m w r →
       matchedTold r ≡ gives (record { message = g; distance = d; tied = false })

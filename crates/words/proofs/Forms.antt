@@ -1,6 +1,6 @@
 -- The form as code computes it: rules' Word and Place. In order: the form by the rows of the generator; the partner
 -- from the form, with one reduction; the words as lists, their lengths, symbols and bounds.
--- Not here: bounds of symbols (rules' Symbols), what a word shows of its label (Readings).  Assumes nothing.
+-- Not here: bounds of symbols (rules, SymbolLaws), what a word shows of its label (Readings).  Assumes nothing.
 use Prim.Native.Nat.{ℕ, _+_, _*_, _%_, _<_}
 use native.Mathlib.Nat.{mod-add-mod}
 use native.Mathlib.Numerals.{add-one}

@@ -1,17 +1,17 @@
 -- Laws of label numbers: rules' Label. A label number is a numeral to base 2^h: the path number, then the coefficients
 -- c_1, .., c_m, then the constant, which stands lowest. In order: powers; bounds; the parts of a label without its
--- lowest digit; the parts determine the label; the number of given parts, and its parts.
+-- lowest digit; the parts determine the label; the number of given parts, and its parts; the bits of a message number.
 -- Not here: message numbers (rules, Messages), label order (Order), words (Readings).  Assumes nothing.
 use Prim.Native.Nat.{ℕ, zero, suc, _+_, _-_, _*_, _/_, _%_, _^_, _≤_, _<_}
 use native.Mathlib.Nat.{pow-zero, pow-suc, pow-succ', mul-zero, mul-suc, mod-lt, div-div-eq-div-mul, div-add-mod'}
 use native.Mathlib.Nat.{le-refl, div-one, mul-one, mul-comm, suc-mul}
 use native.Mathlib.Decide.{ℕ-discrete}
 use native.Mathlib.Omega.{arith}
-use mathlib.Core.Path.{_≡_, refl, sym, _∙_, ap}
+use mathlib.Core.Path.{_≡_, refl, sym, _∙_}
 use lib.Arith.{digits-lt, digits-div, digits-mod}
 use lib.Pow.{pow-pos, pow-add, shr-lt}
-use Rattle.rules.specs.Shape.{phases, pathsInUse, pathBits, messages}
-use Rattle.rules.specs.Label.{labels, labelPath, coefficient, constant, labelOf, messageOf}
+use Rattle.rules.specs.Shape.{phases, pathsInUse, pathBits}
+use Rattle.rules.specs.Label.{labels, labelPath, coefficient, constant, labelOf}
 
 pub phases-pow : (h j : ℕ) → phases h ^ j ≡ 2 ^ (h * j)
 phases-pow h zero = rw (pow-zero, mul-zero)
@@ -144,3 +144,9 @@ numberOf-back h m l =
     label-inj h m (numberOf h m n c c0) l (numberOf-path h c m n c0 s (constant-lt h l))
     (λ j a b. numberOf-coefficient h c m n c0 j s (constant-lt h l) a b)
     (numberOf-constant h c m n c0 (constant-lt h l))
+
+-- 01: path number highest, then c_1 to c_m, then c lowest, each coefficient in h plain binary bits
+pub message-bits : (h m g : ℕ) → let l = labelOf h m g in (labelPath h m l ≡ g / 2 ^ (h * (m + 1)))
+    × ((k : ℕ) → coefficient h m l k ≡ g / 2 ^ (h * (m + 1 - k)) % 2 ^ h) × (constant h l ≡ g % 2 ^ h)
+unfolding labelOf labelPath coefficient constant
+message-bits h m g = (rw (phases-pow h (m + 1)) refl, (λ k. rw (phases-pow h (m + 1 - k)) refl), refl)
