@@ -66,8 +66,8 @@ module _ (h m q half l : ℕ) (g w xs ys : List ℕ) (p : OnePath h m q half l g
     long : length v ≡ carriers m
     long = ap length e ∙ length-listBelow (carriers m) (wordAt h m l)
 
-    pub path-turning : WordFits q v g
-    path-turning = record {
+    pub path-wordFits : WordFits q v g
+    path-wordFits = record {
       long = p .gains ∙ rw (sym (p .symbols), sym long);
       symbols = λ i b. rw (e, p .symbols, listBelow-at (carriers m) (wordAt h m l) i 0 (omega (arith, long)))
           (wordAt-lt h m l i);

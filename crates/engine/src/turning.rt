@@ -24,7 +24,7 @@ pub(super) fn start(q: usize, word: &[u8], gains: &[u32], to: &mut [u32])
     }
 }
 
-// The run of symbol s, from o on: at each place what the symbol gains that stands the word's symbol further on.
+// The run of symbol s, from o on: entry i is the gain of symbol s + word[i], modulo q, at place i.
 fn turn(q: usize, s: usize, o: usize, word: &[u8], gains: &[u32], to: &mut [u32])
     requires { ⌜ WordFits q (now word) (now gains) ⌝ }
     requires { ⌜ (s < q) × (o ≡ s * length (now word)) × (length (now to) ≡ q * length (now word)) ⌝ }

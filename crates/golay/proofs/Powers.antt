@@ -1,5 +1,5 @@
 -- Laws of phasePower: the powers of x modulo x^(2^(h-1)) + 1, told by their coordinates.
--- In order: turning carries a coordinate on, and the last one back negated; half a turn more negates, and a whole turn
+-- In order: times x carries a coordinate on, and the last one back negated; half a turn more negates, and a whole turn
 -- more changes nothing; x^0, x^e below half a turn, and x^e below a whole turn, by tests for a phase; a sum of powers,
 -- by how often two phases are taken.
 -- Not here: autocorrelations (Autocorrelations), envelope powers (Envelopes).  Assumes nothing.

@@ -114,16 +114,16 @@ fits-at m t =
     (allBelow-at (greatestM - 1) _ fits-test (m - 2) (omega (arith, inM-least m t, inM-le m t)))
 
 -- the numbers of the paths in use are numbers of paths
-pub inUse-le : (m : ℕ) → T (inM m) → pathsInUse m ≤ length (paths m)
+pub pathsInUse-le : (m : ℕ) → T (inM m) → pathsInUse m ≤ length (paths m)
 unfolding enough
-inUse-le m t =
+pathsInUse-le m t =
     let b : 2 * pathsInUse m ≤ m ! = leb-true _ _ (and-left (enough m) (short m) (fits-at m t)) in
     omega (arith, length-paths m (inM-least m t))
 
 -- and one bit more would not do: w is the greatest
-pub inUse-most : (m : ℕ) → T (inM m) → length (paths m) < 2 * pathsInUse m
+pub pathsInUse-most : (m : ℕ) → T (inM m) → length (paths m) < 2 * pathsInUse m
 unfolding short
-inUse-most m t =
+pathsInUse-most m t =
     let b : m ! < 4 * pathsInUse m = ltb-true _ _ (and-right (enough m) (short m) (fits-at m t)) in
     omega (arith, length-paths m (inM-least m t))
 

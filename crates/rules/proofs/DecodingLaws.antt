@@ -2,7 +2,7 @@
 -- outcome.
 -- Not here: laws of Best (BestLaws).  Assumes nothing.
 use Prim.Native.Nat.{ℕ}
-use native.Mathlib.Nat.{le-antisymm}
+use native.Mathlib.Omega.{arith}
 use mathlib.Core.Path.{_≡_}
 use mathlib.Core.List.{List}
 use lib.IntN.{ℤ}
@@ -35,7 +35,7 @@ module _ (h m : ℕ) (w : List ℕ) where
   near-unique : (a b : HardAnswer) → Near h m w a → Near h m w b → a ≡ b
   near-unique a b p q =
       let e = best-unique (labels h m) AtLeast (λ k. distance h (carriers m) (symbolAt w) (wordAt h m k))
-      (λ x y s t. le-antisymm t s) _ _ (a .distance) (b .distance) (a .tied) (b .tied) (p .nearest) (q .nearest) in
+      (λ x y s t. omega arith) _ _ (a .distance) (b .distance) (a .tied) (b .tied) (p .nearest) (q .nearest) in
       let g : a .message ≡ b .message = labelOf-inj h m _ _ (e .0) in
       λ i. record { message = g i; distance = e .1 i; tied = e .2 i }
 

@@ -1,22 +1,21 @@
 -- Small sums done by hand, of the rules that no starred case reaches: dictionary order, the spectrum and its stages, what
--- a four-phase symbol hears, refusal 6, Lee distance, the unstarred hard word of 01, the powers of a phase, autocorrelations,
--- envelope powers, and clean soft values. What a transform leaves and refuses: AreaSamples.  Assumes nothing.
+-- a four-phase symbol hears, refusal 6, Lee distance, the powers of a phase, autocorrelations, envelope powers, and clean
+-- soft values. What a transform leaves and refuses: AreaSamples.  Assumes nothing.
 use Prim.Native.Nat.{ℕ, suc}
 use mathlib.Core.Path.{_≡_, refl}
-use mathlib.Core.List.{[], _∷_, flatMap}
+use mathlib.Core.List.{[], _∷_}
 use lib.Dec.{lit<}
 use lib.IntN.{ℤ, pos, negsuc}
-use Rattle.range.specs.Below.{sumBelow, countBelow, listBelow}
+use Rattle.range.specs.Below.{sumBelow, listBelow}
 use Rattle.range.specs.Signed.{sumℤ}
 use Rattle.rules.specs.Place.{digit}
-use Rattle.rules.specs.Path.{Before, here, later, paths, orders, upTo, without, keep, pathAt}
-use Rattle.rules.specs.Label.{labelPath, coefficient, constant}
-use Rattle.rules.specs.Word.{links, formAt, wordAt, symbolAt}
+use Rattle.rules.specs.Path.{Before, here, later}
+use Rattle.rules.specs.Word.{symbolAt}
 use Rattle.rules.specs.Pair.{minus}
 use Rattle.rules.specs.Autocorrelation.{timesPhase, phasePower, autocorrelation}
 use Rattle.rules.specs.Envelope.{phaseAt, envelopePower}
 use Rattle.rules.specs.Soft.{heard, cleanAt, clean}
-use Rattle.rules.specs.Distance.{hamming, leeOf, lee, distance}
+use Rattle.rules.specs.Distance.{leeOf, lee}
 use Rattle.rules.specs.Spectrum.{shared, spectrumAt, stage, stages}
 use Rattle.rules.specs.Outcome.{refuses}
 use Rattle.rules.specs.Refusal.{softRefusal, hardRefusal}
@@ -60,13 +59,6 @@ lee-four = refl
 lee-eight : lee 3 4 (symbolAt (7 ∷ 5 ∷ 4 ∷ 0 ∷ [])) (symbolAt []) ≡ 8
 unfolding lee leeOf minus sumBelow
 lee-eight = refl
-
--- 01: h = 1, m = 4, hard 1001001000011101 is 1 away from message 0's word
-hard-sixteen : distance 1 16
-    (symbolAt (1 ∷ 0 ∷ 0 ∷ 1 ∷ 0 ∷ 0 ∷ 1 ∷ 0 ∷ 0 ∷ 0 ∷ 0 ∷ 1 ∷ 1 ∷ 1 ∷ 0 ∷ 1 ∷ [])) (wordAt 1 4 0) ≡ 1
-unfolding distance hamming countBelow sumBelow wordAt formAt links pathAt paths orders upTo listBelow without keep digit
-    labelPath coefficient constant flatMap
-hard-sixteen = refl
 
 -- four phases: 1 and j are the coordinates, and the powers of j are 1, j, -1, -j
 four-powers : listBelow 4 (λ e. listBelow 2 (phasePower 2 e)) ≡

@@ -26,11 +26,11 @@ pub partnerAt-lt : (h m l i : ℕ) → partnerAt h m l i < phases h
 unfolding partnerAt
 partnerAt-lt h m l i = mod-lt _ (pow-pos h)
 
-pub firstBad-none : (q : ℕ) (w : List ℕ) → none ≡ firstBad q w → (i : ℕ) → i < length w → symbolAt w i < q
+firstBad-none : (q : ℕ) (w : List ℕ) → none ≡ firstBad q w → (i : ℕ) → i < length w → symbolAt w i < q
 firstBad-none q w e i h =
     leb-false _ _ (firstBelow-nowhere (length w) (λ k. leb q (symbolAt w k)) (sym e) i h)
 
-pub firstBad-of-below : (q : ℕ) (w : List ℕ) → ((i : ℕ) → i < length w → symbolAt w i < q) → none ≡ firstBad q w
+firstBad-of-below : (q : ℕ) (w : List ℕ) → ((i : ℕ) → i < length w → symbolAt w i < q) → none ≡ firstBad q w
 firstBad-of-below q w below =
     sym (firstBelow-none (length w) _ (λ i h. lt-leb q (symbolAt w i) (below i h)))
 

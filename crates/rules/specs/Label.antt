@@ -9,7 +9,8 @@
 --           labelParts h m l      the label itself: path number, c_1, .., c_m, c
 --           labelOf h m g         the label number of message g
 --           messageOf h m l       the message number of label l
--- Laws: crate words (the numbers are in label order, and a label number and its parts determine each other).
+-- Laws: proofs/Messages.antt (message and label numbers), crate words (the numbers are in label order, and a label
+-- number and its parts determine each other).
 -- Assumes nothing: these are definitions.
 use Prim.Native.Nat.{ℕ, zero, suc, _+_, _-_, _/_, _%_, _^_}
 use mathlib.Core.List.{List, [], _∷_, _++_}

@@ -9,7 +9,8 @@
 --           upTo m           1, .., m
 --           paths m          every path of m, in dictionary order
 --           pathAt m n       the path with number n, counted from 0
--- That `paths` lists exactly the lists of `IsPath`, in that order: crate paths.
+-- That `paths` lists exactly the lists of `IsPath`, in that order: crate paths. That the order has a direction:
+-- proofs/OrderLaws.antt.
 -- Assumes nothing: these are definitions.
 use Prim.Native.Nat.{ℕ, zero, suc, _+_, _<_, _≤_}
 use mathlib.Core.Path.{_≡_}

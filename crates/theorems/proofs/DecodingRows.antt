@@ -23,9 +23,9 @@ use Rattle.rules.proofs.SymbolLaws.{symbols-of-none, symbols-none}
 use Rattle.rules.proofs.DecodingLaws.{softOutcome-unique, hardOutcome-unique}
 use Rattle.decoder.proofs.Outcomes.{soft-shape, soft-octary, soft-length, soft-allowed}
 use Rattle.decoder.proofs.Outcomes.{hard-shape, hard-octary, hard-length, hard-symbol, hard-allowed}
-use Rattle.theorems.specs.Rows.{FirstBad, SoftRow, soft-1, soft-6, soft-2, soft-found}
-use Rattle.theorems.specs.Rows.{HardRow, hard-1, hard-6, hard-2, hard-3, hard-found}
-use Rattle.theorems.proofs.Rows.{exactly, firstBad-of, firstBad-is}
+use Rattle.theorems.specs.Rows.{FirstTooGreat, SoftRow, soft-1, soft-6, soft-2, soft-gives}
+use Rattle.theorems.specs.Rows.{HardRow, hard-1, hard-6, hard-2, hard-3, hard-gives}
+use Rattle.theorems.proofs.Rows.{exactly, firstTooGreat-of, firstTooGreat-is}
 
 -- a refusal is the same whatever would have been given
 refused-again : {A B : Type 0} {k j : ℕ} {v w : List ℕ} → _≡_ {A = Outcome A} (refuses k v) (refuses j w) →
@@ -53,7 +53,7 @@ module _ (h m : ℕ) (ys : List ℤ) where
   soft-row (gives a) p =
       soft-cases (λ o. o ≡ allowed → SoftRow h m ys (gives a)) (λ s e. absurd (gives-not-refuses (sym e)))
       (λ s t e. absurd (gives-not-refuses (sym e))) (λ s t l e. absurd (gives-not-refuses (sym e)))
-      (λ s t l e. soft-found a s t l (p .inside) (p .greatest)) (p .taken)
+      (λ s t l e. soft-gives a s t l (p .inside) (p .greatest)) (p .taken)
   soft-row (refuses k v) p =
       soft-cases (λ o. o ≡ refuses k v → SoftRow h m ys (refuses k v))
       (λ s e. subst (SoftRow h m ys) (refused-again e) (soft-1 s))
@@ -65,7 +65,7 @@ module _ (h m : ℕ) (ys : List ℤ) where
   soft-of-row (soft-1 s) = soft-shape h m ys s
   soft-of-row (soft-6 s t) = soft-octary h m ys s t
   soft-of-row (soft-2 s t l) = soft-length h m ys s t l
-  soft-of-row (soft-found a s t l b g) = record { taken = soft-allowed h m ys s t l; inside = b; greatest = g }
+  soft-of-row (soft-gives a s t l b g) = record { taken = soft-allowed h m ys s t l; inside = b; greatest = g }
 
   pub soft-exactly : (told : Outcome SoftAnswer) → SoftOutcome h m ys told → (o : Outcome SoftAnswer) →
       (told ≡ o) ↔ SoftRow h m ys o
@@ -77,7 +77,7 @@ module _ (h m : ℕ) (w : List ℕ) where
   hard-cases : (P : Outcome (Unit {0}) → Type 0) → (inShape h m ≡ false → P (refuses 1 [])) →
       (inShape h m ≡ true → h ≡ 3 → P (refuses 6 [])) →
       (inShape h m ≡ true → h ≢ 3 → length w ≢ carriers m → P (refuses 2 [])) →
-      ((i : ℕ) → inShape h m ≡ true → h ≢ 3 → length w ≡ carriers m → FirstBad h w i → P (refuses 3 (i ∷ []))) →
+      ((i : ℕ) → inShape h m ≡ true → h ≢ 3 → length w ≡ carriers m → FirstTooGreat h w i → P (refuses 3 (i ∷ []))) →
       (h ≢ 3 → Symbols h m w → P allowed) → P (hardRefusal h m w)
   hard-cases P one six two three free =
       at (inShape h m) refl (ℕ-discrete h 3) (ℕ-discrete (length w) (carriers m)) (badSymbol h w) refl
@@ -88,7 +88,7 @@ module _ (h m : ℕ) (w : List ℕ) where
       at true s (yes t) _ f e = subst P (sym (hard-octary h m w s t)) (six s t)
       at true s (no t) (no l) f e = subst P (sym (hard-length h m w s t l)) (two s t l)
       at true s (no t) (yes l) (some i) e =
-          subst P (sym (hard-symbol h m w s t l i (sym e))) (three i s t l (firstBad-of h w i e))
+          subst P (sym (hard-symbol h m w s t l i (sym e))) (three i s t l (firstTooGreat-of h w i e))
       at true s (no t) (yes l) none e =
           subst P (sym (hard-allowed h m w s t l (sym e))) (free t (symbols-of-none h m w s l (sym e)))
 
@@ -96,7 +96,7 @@ module _ (h m : ℕ) (w : List ℕ) where
   hard-row (gives a) p =
       hard-cases (λ o. o ≡ allowed → HardRow h m w (gives a)) (λ s e. absurd (gives-not-refuses (sym e)))
       (λ s t e. absurd (gives-not-refuses (sym e))) (λ s t l e. absurd (gives-not-refuses (sym e)))
-      (λ i s t l b e. absurd (gives-not-refuses (sym e))) (λ t s e. hard-found a t s (p .inside) (p .nearest)) (p .taken)
+      (λ i s t l b e. absurd (gives-not-refuses (sym e))) (λ t s e. hard-gives a t s (p .inside) (p .nearest)) (p .taken)
   hard-row (refuses k v) p =
       hard-cases (λ o. o ≡ refuses k v → HardRow h m w (refuses k v))
       (λ s e. subst (HardRow h m w) (refused-again e) (hard-1 s))
@@ -109,8 +109,8 @@ module _ (h m : ℕ) (w : List ℕ) where
   hard-of-row (hard-1 s) = hard-shape h m w s
   hard-of-row (hard-6 s t) = hard-octary h m w s t
   hard-of-row (hard-2 s t l) = hard-length h m w s t l
-  hard-of-row (hard-3 i s t l b) = hard-symbol h m w s t l i (sym (firstBad-is h w i b))
-  hard-of-row (hard-found a t s b n) = record {
+  hard-of-row (hard-3 i s t l b) = hard-symbol h m w s t l i (sym (firstTooGreat-is h w i b))
+  hard-of-row (hard-gives a t s b n) = record {
     taken = hard-allowed h m w (s .shape) t (s .long) (symbols-none h m w s);
     inside = b;
     nearest = n;

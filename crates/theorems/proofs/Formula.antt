@@ -1,11 +1,10 @@
--- Paths, labels and words as 01 writes them. In order: the links of a path as a sum; the label of given parts; label
--- order, both ways; the formula of a word and of a partner, at a place.
+-- Paths, labels and words as 01 writes them. In order: the links of a path as a sum; label order, both ways; the message
+-- of given parts; the path of a message; the formula of a word and of a partner, at a place.
 -- Not here: the laws of paths (crate paths), of labels and their order (crate words).  Assumes nothing.
-use Prim.Native.Nat.{ℕ, zero, suc, _+_, _-_, _*_, _%_, _^_, _≤_, _<_}
-use native.Mathlib.Decide.{decLt, ℕ-discrete}
-use native.Mathlib.Nat.{add-zero}
+use Prim.Native.Nat.{ℕ, suc, _+_, _-_, _*_, _%_, _^_, _≤_, _<_}
+use native.Mathlib.Decide.{decLt}
 use native.Mathlib.Omega.{arith}
-use mathlib.Core.Path.{_≡_, refl, sym, _∙_, ap, subst}
+use mathlib.Core.Path.{_≡_, refl, _∙_, ap}
 use mathlib.Core.Bool.{true}
 use mathlib.Core.List.{List, [], _∷_}
 use mathlib.Core.Logic.{_↔_}
@@ -13,14 +12,14 @@ use lib.ListN.{length, getD}
 use Rattle.range.specs.Below.{sumBelow}
 use Rattle.rules.specs.Shape.{inShape, phases, carriers, pathsInUse, messages}
 use Rattle.rules.specs.Place.{digit}
-use Rattle.rules.specs.Path.{headOf, IsPath, Before, paths, pathAt}
+use Rattle.rules.specs.Path.{headOf, IsPath, Before, pathAt}
 use Rattle.rules.specs.Label.{labelPath, coefficient, constant, labelParts, labelOf, messageOf}
 use Rattle.rules.specs.Word.{links, formAt, wordAt, partnerAt, wordOf, partnerOf, symbolAt}
 use Rattle.rules.proofs.Range.{inShape-range, range-inM}
 use Rattle.rules.proofs.OrderLaws.{before-asymm, before-distinct}
 use Rattle.rules.proofs.Messages.{labelOf-lt, labelOf-messageOf, messageOf-lt}
 use Rattle.paths.proofs.Members.{pathAt-isPath}
-use Rattle.paths.proofs.Number.{inUse-le}
+use Rattle.paths.proofs.Number.{pathsInUse-le}
 use Rattle.words.proofs.Labels.{numberOf, numberOf-path, numberOf-coefficient, numberOf-constant, numberOf-lt}
 use Rattle.words.proofs.Labels.{labelPath-lt}
 use Rattle.words.proofs.Order.{label-order}
@@ -78,7 +77,7 @@ module _ (h m g : ℕ) (shape : inShape h m ≡ true) (taken : g < messages h m)
   path-is : IsPath m (pathAt m (labelPath h m l))
   path-is =
       pathAt-isPath m (labelPath h m l)
-      (omega (arith, path-used, inUse-le m (range-inM h m (inShape-range h m shape))))
+      (omega (arith, path-used, pathsInUse-le m (range-inM h m (inShape-range h m shape))))
 
   pub word-formula : (i : ℕ) → i < carriers m → let p = pathAt m (labelPath h m l) in let x = digit m i in
       IsPath m p × (symbolAt (wordOf h m g) i

@@ -25,7 +25,7 @@ use Rattle.pair.proofs.Pairs.{golayPair-iff}
 use Rattle.pair.proofs.Outcomes.{Sized, pair-shape, pair-first-length, pair-second-length, pair-first-symbol}
 use Rattle.pair.proofs.Outcomes.{pair-second-symbol, pair-given}
 use Rattle.theorems.specs.Rows.{PairRow, pair-1, pair-2, pair-3-first, pair-3-second, pair-yes, pair-no}
-use Rattle.theorems.proofs.Rows.{firstBad-of, firstBad-is}
+use Rattle.theorems.proofs.Rows.{firstTooGreat-of, firstTooGreat-is}
 
 module _ (h m : ℕ) (a b : List ℕ) where
   sized : inShape h m ≡ true → length a ≡ carriers m → length b ≡ carriers m → Sized h m (phases h) a b
@@ -76,10 +76,10 @@ module _ (h m : ℕ) (a b : List ℕ) where
       at : (f : Option ℕ) → badSymbol h a ≡ f → (e : Option ℕ) → badSymbol h b ≡ e → Row (pairOutcome h m a b)
       at (some i) u e v =
           subst Row (pair-first-symbol h m (phases h) a b (sized s p q) i (sym u))
-          (pair-3-first i s p q (firstBad-of h a i u))
+          (pair-3-first i s p q (firstTooGreat-of h a i u))
       at none u (some i) v =
           subst Row (pair-second-symbol h m (phases h) a b (sized s p q) (sym u) i (sym v))
-          (pair-3-second i (symbols-of-none h m a s p (sym u)) q (firstBad-of h b i v))
+          (pair-3-second i (symbols-of-none h m a s p (sym u)) q (firstTooGreat-of h b i v))
       at none u none v = counted (symbols-of-none h m a s p (sym u)) (symbols-of-none h m b s q (sym v))
 
   pub pair-row : Row (pairOutcome h m a b)
@@ -107,9 +107,9 @@ module _ (h m : ℕ) (a b : List ℕ) where
   pair-only (pair-1 s) = pair-shape h m a b s
   pair-only (pair-2 s n) = short s n
   pair-only (pair-3-first i s p q f) =
-      pair-first-symbol h m (phases h) a b (sized s p q) i (sym (firstBad-is h a i f))
+      pair-first-symbol h m (phases h) a b (sized s p q) i (sym (firstTooGreat-is h a i f))
   pair-only (pair-3-second i p q f) =
       pair-second-symbol h m (phases h) a b (sized (p .shape) (p .long) q) (symbols-none h m a p) i
-      (sym (firstBad-is h b i f))
+      (sym (firstTooGreat-is h b i f))
   pair-only (pair-yes p q c) = ap gives (sym (tested-iff (p .shape) .1 c)) ∙ pair-tested p q
   pair-only (pair-no p q c) = ap gives (sym (tested-false (p .shape) .1 c)) ∙ pair-tested p q

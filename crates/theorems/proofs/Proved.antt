@@ -22,7 +22,7 @@ use Rattle.signals.proofs.Units.{unit-two, unit-four}
 use Rattle.signals.proofs.Noiseless.{clean-size}
 use Rattle.paths.proofs.Members.{path-iff}
 use Rattle.paths.proofs.Increasing.{paths-increasing}
-use Rattle.paths.proofs.Number.{length-paths, inUse-le, inUse-most}
+use Rattle.paths.proofs.Number.{length-paths, pathsInUse-le, pathsInUse-most}
 use Rattle.words.proofs.Labels.{coefficient-lt, constant-lt, message-bits}
 use Rattle.words.proofs.Partners.{partnerOf-not-wordOf}
 use Rattle.golay.proofs.Autocorrelations.{cancel-iff-counts}
@@ -35,7 +35,7 @@ use Rattle.reader.proofs.Outcomes.{reading-unique}
 use Rattle.transform.proofs.Unique.{judged-unique, ran-unique, handed-unique, atLast-unique}
 use Rattle.decoder.specs.Told.{heardTold, matchedTold}
 use Rattle.decoder.proofs.Outcomes.{hears-unique, matches-unique, hears-found, matches-found}
-use Rattle.theorems.specs.Rows.{SendRow, PairRow, ReadRow, TransformRow, read-5, read-found}
+use Rattle.theorems.specs.Rows.{SendRow, PairRow, ReadRow, TransformRow, read-5, read-gives}
 use Rattle.theorems.specs.Demand1.{Demand1}
 use Rattle.theorems.specs.Demand2.{Demand2}
 use Rattle.theorems.specs.Demand3.{Demand3}
@@ -110,7 +110,7 @@ demand2 = record {
   before-asymm = λ p q. before-asymm;
   before-trans = λ p q s. before-trans;
   paths-number = λ m two. omega (arith, length-paths m two);
-  paths-used = λ m e. let t = subst T (sym e) tt in (inUse-le m t, inUse-most m t);
+  paths-used = λ m e. let t = subst T (sym e) tt in (pathsInUse-le m t, pathsInUse-most m t);
   label-order = label-order-iff;
   message-bits = message-bits;
   message-parts = λ h m g shape taken.
@@ -125,7 +125,7 @@ demand2 = record {
       partnerOf-not-wordOf h m g (r .h-least) (range-inM h m r);
   read-finds = λ h m w g r e. (
     λ p. row-found h m w (read-exactly h m w e (gives g) .0 p),
-    λ p. read-exactly h m w e (gives g) .1 (read-found g (p .0) (p .1) (p .2)),
+    λ p. read-exactly h m w e (gives g) .1 (read-gives g (p .0) (p .1) (p .2)),
   );
   read-none = λ h m w r e. (
     λ p. row-none h m w (read-exactly h m w e (refuses 5 []) .0 p),

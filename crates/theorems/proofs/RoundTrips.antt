@@ -38,7 +38,7 @@ use Rattle.decoder.specs.declared.Matched.{Matched}
 use Rattle.decoder.specs.Told.{heardTold, matchedTold, Hears, Matches}
 use Rattle.decoder.proofs.Outcomes.{soft-allowed}
 use Rattle.theorems.specs.Names.{word, Encodes}
-use Rattle.theorems.specs.Rows.{read-found}
+use Rattle.theorems.specs.Rows.{read-gives}
 use Rattle.theorems.proofs.Slices.{wordOf-symbols, done-shape, done-message, done-word}
 use Rattle.theorems.proofs.Rows.{read-only}
 use Rattle.theorems.proofs.Damage.{matched-of-near, near-of-damage, damage-two}
@@ -110,7 +110,7 @@ soft-back h m g a d w t two some s hears =
 pub read-back : (h m g : ℕ) (d w : List ℕ) (t : Reading) → Encodes h m g d w → readingTold t ≡ readOutcome h m w →
     readingTold t ≡ gives g
 read-back h m g d w t s told =
-    told ∙ sym (read-only h m w (read-found g (done-shape s) (done-message s) (sym (done-word s))))
+    told ∙ sym (read-only h m w (read-gives g (done-shape s) (done-message s) (sym (done-word s))))
 
 -- 01: h = 1, m = 4, hard 1001001000011101: one place is changed in message 0's word, and two is below 4
 pub sixteen : (r : Matched) → Matches 1 4 (1 ∷ 0 ∷ 0 ∷ 1 ∷ 0 ∷ 0 ∷ 1 ∷ 0 ∷ 0 ∷ 0 ∷ 0 ∷ 1 ∷ 1 ∷ 1 ∷ 0 ∷ 1 ∷ []) r →

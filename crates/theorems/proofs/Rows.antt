@@ -24,8 +24,8 @@ use Rattle.rules.proofs.SymbolLaws.{symbols-of-none, symbols-none}
 use Rattle.encoder.proofs.SentLaws.{send-shape, send-length, send-message, send-allowed}
 use Rattle.reader.proofs.Outcomes.{read-shape, read-length, read-symbol, read-search}
 use Rattle.reader.proofs.ShownLaws.{messageWith-some, messageWith-iff, messageWith-none-iff}
-use Rattle.theorems.specs.Rows.{FirstBad, SendRow, send-1, send-2, send-4, send-none}
-use Rattle.theorems.specs.Rows.{ReadRow, read-1, read-2, read-3, read-5, read-found}
+use Rattle.theorems.specs.Rows.{FirstTooGreat, SendRow, send-1, send-2, send-4, send-none}
+use Rattle.theorems.specs.Rows.{ReadRow, read-1, read-2, read-3, read-5, read-gives}
 use Rattle.theorems.proofs.Slices.{wordOf-symbols}
 
 -- where a row holds of what is told, and every row that holds says it
@@ -34,15 +34,15 @@ pub exactly : {A : Type 0} (Row : Outcome A → Type 0) (told : Outcome A) → R
 exactly Row told has only o = (λ e. subst Row e has, λ r. sym (only o r))
 
 module _ (h : ℕ) (w : List ℕ) (i : ℕ) where
-  pub firstBad-of : badSymbol h w ≡ some i → FirstBad h w i
+  pub firstTooGreat-of : badSymbol h w ≡ some i → FirstTooGreat h w i
   unfolding badSymbol
-  firstBad-of e =
+  firstTooGreat-of e =
       let f = firstBelow-at (length w) (λ k. leb (phases h) (symbolAt w k)) i e in
       record { inside = f .0; bad = leb-true _ _ (f .1 .0); before = λ j l. leb-false _ _ (f .1 .1 j l) }
 
-  pub firstBad-is : FirstBad h w i → badSymbol h w ≡ some i
+  pub firstTooGreat-is : FirstTooGreat h w i → badSymbol h w ≡ some i
   unfolding badSymbol
-  firstBad-is f =
+  firstTooGreat-is f =
       firstBelow-some (length w) (λ k. leb (phases h) (symbolAt w k)) i (f .inside) (le-leb _ _ (f .bad))
       (λ j l. lt-leb _ _ (f .before j l))
 
@@ -79,14 +79,14 @@ module _ (h m : ℕ) (w : List ℕ) where
       found s none e = read-5 s (messageWith-none-iff h m w s .0 e)
       found s (some g) e =
           let has = messageWith-iff h m w s g .0 e in
-          read-found g (s .shape) (has .0) (has .1)
+          read-gives g (s .shape) (has .0) (has .1)
 
       at : (b : Bool) → inShape h m ≡ b → Dec (length w ≡ carriers m) → (f : Option ℕ) → badSymbol h w ≡ f →
           ReadRow h m w (readOutcome h m w)
       at false s _ f e = subst (ReadRow h m w) (read-shape h m w s) (read-1 s)
       at true s (no l) f e = subst (ReadRow h m w) (read-length h m w s l) (read-2 s l)
       at true s (yes l) (some i) e =
-          subst (ReadRow h m w) (read-symbol h m w s l i (sym e)) (read-3 i s l (firstBad-of h w i e))
+          subst (ReadRow h m w) (read-symbol h m w s l i (sym e)) (read-3 i s l (firstTooGreat-of h w i e))
       at true s (yes l) none e =
           let is = symbols-of-none h m w s l (sym e) in
           subst (ReadRow h m w) (searched is) (found is (messageWith h m w) refl)
@@ -95,15 +95,15 @@ module _ (h m : ℕ) (w : List ℕ) where
   unfolding badSymbol
   read-only (read-1 s) = read-shape h m w s
   read-only (read-2 s l) = read-length h m w s l
-  read-only (read-3 i s l b) = read-symbol h m w s l i (sym (firstBad-is h w i b))
+  read-only (read-3 i s l b) = read-symbol h m w s l i (sym (firstTooGreat-is h w i b))
   read-only (read-5 s n) = ap orNoWord (sym (messageWith-none-iff h m w s .1 n)) ∙ searched s
-  read-only (read-found g s b e) =
+  read-only (read-gives g s b e) =
       let is : Symbols h m w = subst (Symbols h m) e (wordOf-symbols h m g s) in
       ap orNoWord (sym (messageWith-some h m w is g b e)) ∙ searched is
 
   -- what the rows of a message and of none hold
   pub row-found : {g : ℕ} → ReadRow h m w (gives g) → (inShape h m ≡ true) × (g < messages h m) × (wordOf h m g ≡ w)
-  row-found (read-found g s b e) = (s, b, e)
+  row-found (read-gives g s b e) = (s, b, e)
 
   pub row-none : ReadRow h m w (refuses 5 []) → Symbols h m w × ((g : ℕ) → g < messages h m → wordOf h m g ≢ w)
   row-none (read-5 s n) = (s, n)

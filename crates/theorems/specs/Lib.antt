@@ -1,4 +1,5 @@
--- The index of theorems (Theorems), a file for each demand, and the words that they share.
+-- The index of theorems (Theorems): a file for each demand, for the transform and for further facts; before them names,
+-- and the rows of the table, which they share.
 pub mod Names
 pub mod Rows
 pub mod Demand1

@@ -1,7 +1,7 @@
 -- 01's table "When the receiver says no", call by call, with what is answered where nothing is refused. Each case is a
 -- row: what holds there, and what the call then tells. A row of a later test says that every earlier one was passed, so
 -- the rows of a call exclude each other and leave nothing out; the number in a case's name is the refusal's.
--- Defines:  FirstBad h w i        the first symbol of w that is 2^h or more stands at place i
+-- Defines:  FirstTooGreat h w i   the first symbol of w that is 2^h or more stands at place i
 --           FirstOutside m y i    the first of the first N entries of y outside the range of an input stands at i
 --           SendRow h m n g o     encode and partner, with n places for output and message number g, tell o
 --           PairRow h m a b o     the pair check of a and b tells o: a refusal 3 tells the place, then which word
@@ -10,7 +10,8 @@
 --           HardRow h m w o       hard decoding of w tells o
 --           TransformRow m a b o  the question about a transform of the areas a and b tells o
 -- The words of the rows: rules Shape, Symbols, Word, Autocorrelation (Cancel), Soft, Best, Decoding, Spectrum.
--- Proved in proofs/Rows.antt: a call tells o exactly where a row says so.  Assumes nothing: these are definitions.
+-- Proved in proofs/Rows.antt, PairRows.antt, DecodingRows.antt and TransformRows.antt: a call tells o exactly where a row
+-- says so.  Assumes nothing: these are definitions.
 use Prim.Native.Nat.{ℕ, _≤_, _<_}
 use mathlib.Core.Path.{_≡_}
 use mathlib.Core.Bool.{Bool, true, false}
@@ -30,7 +31,7 @@ use Rattle.rules.specs.Spectrum.{accepted}
 use Rattle.rules.specs.Outcome.{Outcome, gives, refuses, allowed}
 use Rattle.rules.specs.Decoding.{SoftAnswer, HardAnswer}
 
-pub record FirstBad (h : ℕ) (w : List ℕ) (i : ℕ) : Type 0 where
+pub record FirstTooGreat (h : ℕ) (w : List ℕ) (i : ℕ) : Type 0 where
   pub inside : i < length w
   pub bad : phases h ≤ symbolAt w i
   pub before : (j : ℕ) → j < i → symbolAt w j < phases h
@@ -50,9 +51,9 @@ pub data PairRow (h m : ℕ) (a b : List ℕ) : Outcome Bool → Type 0 where
   pair-1 : inShape h m ≡ false → PairRow h m a b (refuses 1 [])
   pair-2 : inShape h m ≡ true → ((length a ≡ carriers m) × (length b ≡ carriers m) → ⊥) →
       PairRow h m a b (refuses 2 [])
-  pair-3-first : (i : ℕ) → inShape h m ≡ true → length a ≡ carriers m → length b ≡ carriers m → FirstBad h a i →
+  pair-3-first : (i : ℕ) → inShape h m ≡ true → length a ≡ carriers m → length b ≡ carriers m → FirstTooGreat h a i →
       PairRow h m a b (refuses 3 (i ∷ 1 ∷ []))
-  pair-3-second : (i : ℕ) → Symbols h m a → length b ≡ carriers m → FirstBad h b i →
+  pair-3-second : (i : ℕ) → Symbols h m a → length b ≡ carriers m → FirstTooGreat h b i →
       PairRow h m a b (refuses 3 (i ∷ 2 ∷ []))
   pair-yes : Symbols h m a → Symbols h m b → Cancel h m (symbolAt a) (symbolAt b) → PairRow h m a b (gives true)
   pair-no : Symbols h m a → Symbols h m b → (Cancel h m (symbolAt a) (symbolAt b) → ⊥) → PairRow h m a b (gives false)
@@ -60,15 +61,15 @@ pub data PairRow (h m : ℕ) (a b : List ℕ) : Outcome Bool → Type 0 where
 pub data ReadRow (h m : ℕ) (w : List ℕ) : Outcome ℕ → Type 0 where
   read-1 : inShape h m ≡ false → ReadRow h m w (refuses 1 [])
   read-2 : inShape h m ≡ true → length w ≢ carriers m → ReadRow h m w (refuses 2 [])
-  read-3 : (i : ℕ) → inShape h m ≡ true → length w ≡ carriers m → FirstBad h w i → ReadRow h m w (refuses 3 (i ∷ []))
+  read-3 : (i : ℕ) → inShape h m ≡ true → length w ≡ carriers m → FirstTooGreat h w i → ReadRow h m w (refuses 3 (i ∷ []))
   read-5 : Symbols h m w → ((g : ℕ) → g < messages h m → wordOf h m g ≢ w) → ReadRow h m w (refuses 5 [])
-  read-found : (g : ℕ) → inShape h m ≡ true → g < messages h m → wordOf h m g ≡ w → ReadRow h m w (gives g)
+  read-gives : (g : ℕ) → inShape h m ≡ true → g < messages h m → wordOf h m g ≡ w → ReadRow h m w (gives g)
 
 pub data SoftRow (h m : ℕ) (ys : List ℤ) : Outcome SoftAnswer → Type 0 where
   soft-1 : inShape h m ≡ false → SoftRow h m ys (refuses 1 [])
   soft-6 : inShape h m ≡ true → h ≡ 3 → SoftRow h m ys (refuses 6 [])
   soft-2 : inShape h m ≡ true → h ≢ 3 → length ys ≢ softLength h m → SoftRow h m ys (refuses 2 [])
-  soft-found : (a : SoftAnswer) → inShape h m ≡ true → h ≢ 3 → length ys ≡ softLength h m →
+  soft-gives : (a : SoftAnswer) → inShape h m ≡ true → h ≢ 3 → length ys ≡ softLength h m →
       a .message < messages h m → Greatest h m ys (labelOf h m (a .message)) (a .correlation) (a .tied) →
       SoftRow h m ys (gives a)
 
@@ -76,9 +77,9 @@ pub data HardRow (h m : ℕ) (w : List ℕ) : Outcome HardAnswer → Type 0 wher
   hard-1 : inShape h m ≡ false → HardRow h m w (refuses 1 [])
   hard-6 : inShape h m ≡ true → h ≡ 3 → HardRow h m w (refuses 6 [])
   hard-2 : inShape h m ≡ true → h ≢ 3 → length w ≢ carriers m → HardRow h m w (refuses 2 [])
-  hard-3 : (i : ℕ) → inShape h m ≡ true → h ≢ 3 → length w ≡ carriers m → FirstBad h w i →
+  hard-3 : (i : ℕ) → inShape h m ≡ true → h ≢ 3 → length w ≡ carriers m → FirstTooGreat h w i →
       HardRow h m w (refuses 3 (i ∷ []))
-  hard-found : (a : HardAnswer) → h ≢ 3 → Symbols h m w → a .message < messages h m →
+  hard-gives : (a : HardAnswer) → h ≢ 3 → Symbols h m w → a .message < messages h m →
       Nearest h m w (labelOf h m (a .message)) (a .distance) (a .tied) → HardRow h m w (gives a)
 
 pub data TransformRow (m : ℕ) (a b : List ℤ) : Outcome (Unit {0}) → Type 0 where

@@ -1,5 +1,5 @@
-// The theorems about the words and the calls of document 01: specs/Theorems.antt states them, in one place. No code but
-// one empty function, which says once what is true by the type alone.
+// The theorems about the words and the calls of document 01: specs/Theorems.antt gathers them, a file for each demand. No
+// code but one empty function, which says once what is true by the type alone.
 ghost use mathlib.Core.Path.{_≡_};
 
 // A slice lent for reading is afterwards what it was, whatever is done with it: a function cannot write through it. This

@@ -9,12 +9,12 @@ use Rattle.rules.specs.Shape.{inM, pathsInUse}
 use Rattle.rules.specs.Path.{IsPath, paths, pathAt}
 use Rattle.rules.specs.Label.{labels, labelPath}
 use Rattle.paths.proofs.Members.{pathAt-isPath, isPath-in, isPath-distinct}
-use Rattle.paths.proofs.Number.{inUse-le}
+use Rattle.paths.proofs.Number.{pathsInUse-le}
 use Rattle.words.proofs.Labels.{labelPath-lt}
 use Rattle.words.proofs.Readings.{Good}
 
 pub used-lt : (m n : ℕ) → T (inM m) → n < pathsInUse m → n < length (paths m)
-used-lt m n range h = lt-of-lt-of-le h (inUse-le m range)
+used-lt m n range h = lt-of-lt-of-le h (pathsInUse-le m range)
 
 used-isPath : (m n : ℕ) → T (inM m) → n < pathsInUse m → IsPath m (pathAt m n)
 used-isPath m n range h = pathAt-isPath m n (used-lt m n range h)

@@ -4,7 +4,7 @@ use native.Mathlib.Omega.{arith}
 use denote.Ref.{now}
 use borrow.Author.Needs.{needs}
 use Rattle.rules.proofs.Range.{inShape-range}
-use Rattle.engine.proofs.PathLaws.{path-first, path-room, path-turning, path-climbing, path-returned}
+use Rattle.engine.proofs.PathLaws.{path-first, path-room, path-wordFits, path-climbing, path-returned}
 use Rattle.engine.proofs.path.Statement.{statement}
 use Rattle.engine.proofs.path.Tie as tie
 
@@ -28,7 +28,7 @@ begin-requires : tie.Need-begin-requires
 begin-requires c κs =
     let own = worded c in
     let p = start (own .before) .pre in
-    (path-turning _ _ _ _ _ _ _ _ _ p _ (own .own-word .ensures), path-room _ _ _ _ _ _ _ _ _ p)
+    (path-wordFits _ _ _ _ _ _ _ _ _ p _ (own .own-word .ensures), path-room _ _ _ _ _ _ _ _ _ p)
 
 sub-climb : tie.Need-sub-climb
 sub-climb c =
