@@ -1,22 +1,22 @@
 -- What the pair check is to answer on each way out of the code.
--- In order: the shape refused; a length; a symbol; what the counts require; what is left to them; back, from what is
--- given.
--- Assumes nothing.
+-- In order: the shape refused; a length; two words in range, which are left to the counts; past the lengths: a symbol, a
+-- word in range, and what the counts require.  Assumes nothing.
 use Prim.Native.Nat.{ℕ}
 use mathlib.Core.Path.{_≡_, sym}
-use mathlib.Core.Bool.{Bool, true, false, _||_}
+use mathlib.Core.Bool.{true, false}
 use mathlib.Core.List.{List, [], _∷_}
 use mathlib.Core.Option.{none, some}
 use lib.ListN.{length}
-use borrow.Author.Tests.{eq-eqb, ne-eqb, not-false}
+use borrow.Author.Tests.{eq-eqb, ne-eqb}
 use Rattle.rules.specs.Shape.{inShape, phases, carriers}
 use Rattle.rules.specs.Pair.{golayPair}
 use Rattle.rules.specs.Word.{symbolAt}
-use Rattle.rules.specs.Outcome.{Outcome, gives, refuses, refuse, refuseAt}
-use Rattle.rules.specs.Table.{badShape, badLength, badSymbol, firstBad}
+use Rattle.rules.specs.Symbols.{Symbols}
+use Rattle.rules.specs.Outcome.{gives, refuses, refuseAt}
+use Rattle.rules.specs.Table.{badSymbol, firstBad}
 use Rattle.rules.specs.Refusal.{pairOutcome}
 use Rattle.rules.proofs.Range.{inShape-range}
-use Rattle.rules.proofs.OutcomeLaws.{gives-inj, refuse-gives, refuseAt-gives}
+use Rattle.rules.proofs.SymbolLaws.{symbols-of-none, symbols-none}
 use Rattle.pair.specs.Words.{Words}
 
 module _ (h m : ℕ) (a b : List ℕ) where
@@ -32,6 +32,17 @@ module _ (h m : ℕ) (a b : List ℕ) where
       refuses 2 [] ≡ pairOutcome h m a b
   unfolding pairOutcome
   pair-second-length s p r = rw (s, eq-eqb (length a) (carriers m) p, ne-eqb (length b) (carriers m) r)
+
+  pub pair-given : Symbols h m a → Symbols h m b → gives (golayPair h m (symbolAt a) (symbolAt b)) ≡ pairOutcome h m a b
+  unfolding pairOutcome
+  pair-given p q =
+      rw (
+        p .shape,
+        eq-eqb (length a) (carriers m) (p .long),
+        eq-eqb (length b) (carriers m) (q .long),
+        sym (symbols-none h m a p),
+        sym (symbols-none h m b q),
+      )
 
 -- what is known past those tests, with q for 2^h
 pub record Sized (h m q : ℕ) (a b : List ℕ) : Type 0 where
@@ -56,25 +67,10 @@ module _ (h m q : ℕ) (a b : List ℕ) (s : Sized h m q a b) where
       let r = inShape-range h m (s .shape) in
       record { h-least = r .h-least; h-most = r .h-most; lengths = cc }
 
-  module _ (e : none ≡ firstBad q a) where
-    pub pair-second-symbol : (i : ℕ) → some i ≡ firstBad q b → refuses 3 (i ∷ 2 ∷ []) ≡ pairOutcome h m a b
-    pair-second-symbol i f = rw (pair-symbols, sym e, sym f)
+  pub pair-second-symbol : none ≡ firstBad q a → (i : ℕ) → some i ≡ firstBad q b →
+      refuses 3 (i ∷ 2 ∷ []) ≡ pairOutcome h m a b
+  pair-second-symbol e i f = rw (pair-symbols, sym e, sym f)
 
-    module _ (f : none ≡ firstBad q b) where
-      pub pair-given : gives (golayPair h m (symbolAt a) (symbolAt b)) ≡ pairOutcome h m a b
-      pair-given = rw (pair-symbols, sym e, sym f)
-
--- back: what is given is the test of a pair, and the shape is in range
-pub pair-gives : (h m : ℕ) (a b : List ℕ) (t : Bool) → pairOutcome h m a b ≡ gives t →
-    (inShape h m ≡ true) × (golayPair h m (symbolAt a) (symbolAt b) ≡ t)
-unfolding pairOutcome
-pair-gives h m a b t e =
-    let l = badLength (length a) (carriers m) || badLength (length b) (carriers m) in
-    let given : Outcome Bool = gives (golayPair h m (symbolAt a) (symbolAt b)) in
-    let second : Outcome Bool = refuseAt 3 (badSymbol h b) (2 ∷ []) given in
-    let first : Outcome Bool = refuseAt 3 (badSymbol h a) (1 ∷ []) second in
-    let p = refuse-gives 1 (badShape h m) (refuse 2 l first) t e in
-    let q = refuse-gives 2 l first t (p .1) in
-    let r = refuseAt-gives 3 (badSymbol h a) (1 ∷ []) second t (q .1) in
-    let s = refuseAt-gives 3 (badSymbol h b) (2 ∷ []) given t (r .1) in
-    (not-false _ (p .0), gives-inj (s .1))
+  pub word-in-range : (w : List ℕ) → length w ≡ carriers m → none ≡ firstBad q w → Symbols h m w
+  unfolding badSymbol
+  word-in-range w long good = symbols-of-none h m w (s .shape) long (rw (sym (s .turn)) good)

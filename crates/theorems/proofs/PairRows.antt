@@ -1,6 +1,6 @@
 -- What the pair check tells is exactly what the rows of its table say (specs/Rows.antt): a row holds of what the rules
--- say is told, and every row that holds says that. In order: what is told of two words in range, and that it is whether
--- they cancel; the row that holds; what the rows say.
+-- say is told, and every row that holds says that. In order: the test of a pair is whether two words cancel; the row that
+-- holds; what the rows say.
 -- Not here: the other calls (Rows, DecodingRows, TransformRows).  Assumes nothing.
 use Prim.Native.Nat.{ℕ}
 use native.Mathlib.Decide.{ℕ-discrete}
@@ -31,13 +31,7 @@ module _ (h m : ℕ) (a b : List ℕ) where
   sized : inShape h m ≡ true → length a ≡ carriers m → length b ≡ carriers m → Sized h m (phases h) a b
   sized s p q = record { shape = s; turn = refl; first = p; second = q }
 
-  -- of two words in range the test of a pair is told
-  pub pair-tested : Symbols h m a → Symbols h m b → gives (golayPair h m (symbolAt a) (symbolAt b)) ≡ pairOutcome h m a b
-  unfolding badSymbol
-  pair-tested p q =
-      pair-given h m (phases h) a b (sized (p .shape) (p .long) (q .long)) (symbols-none h m a p) (symbols-none h m b q)
-
-  -- and it is whether they cancel
+  -- the test of a pair is whether two words cancel
   pub tested-iff : inShape h m ≡ true →
       (golayPair h m (symbolAt a) (symbolAt b) ≡ true) ↔ Cancel h m (symbolAt a) (symbolAt b)
   tested-iff s =
@@ -62,7 +56,7 @@ module _ (h m : ℕ) (a b : List ℕ) where
 
   -- two words in range
   counted : Symbols h m a → Symbols h m b → Row (pairOutcome h m a b)
-  counted p q = subst Row (pair-tested p q) (at (golayPair h m (symbolAt a) (symbolAt b)) refl)
+  counted p q = subst Row (pair-given h m a b p q) (at (golayPair h m (symbolAt a) (symbolAt b)) refl)
     where
       at : (t : Bool) → golayPair h m (symbolAt a) (symbolAt b) ≡ t → Row (gives t)
       at true e = pair-yes p q (tested-iff (p .shape) .0 e)
@@ -111,5 +105,5 @@ module _ (h m : ℕ) (a b : List ℕ) where
   pair-only (pair-3-second i p q f) =
       pair-second-symbol h m (phases h) a b (sized (p .shape) (p .long) q) (symbols-none h m a p) i
       (sym (firstTooGreat-is h b i f))
-  pair-only (pair-yes p q c) = ap gives (sym (tested-iff (p .shape) .1 c)) ∙ pair-tested p q
-  pair-only (pair-no p q c) = ap gives (sym (tested-false (p .shape) .1 c)) ∙ pair-tested p q
+  pair-only (pair-yes p q c) = ap gives (sym (tested-iff (p .shape) .1 c)) ∙ pair-given h m a b p q
+  pair-only (pair-no p q c) = ap gives (sym (tested-false (p .shape) .1 c)) ∙ pair-given h m a b p q

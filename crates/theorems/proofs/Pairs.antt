@@ -33,10 +33,11 @@ use Rattle.pair.specs.declared.Paired.{Paired}
 use Rattle.pair.specs.declared.Paired.the-variants.{Yes, No}
 use Rattle.pair.specs.Told.{pairedTold}
 use Rattle.pair.proofs.Pairs.{golayPair-iff, golayPair-cong, golayPair-self}
+use Rattle.pair.proofs.Outcomes.{pair-given}
 use Rattle.pair.proofs.Told.{pairedTold-inj}
 use Rattle.theorems.specs.Names.{word, partner, Encodes, Partners}
 use Rattle.theorems.proofs.Slices.{wordOf-symbols, partnerOf-symbols, done-shape, done-message, done-word}
-use Rattle.theorems.proofs.PairRows.{pair-tested, tested-iff, tested-false}
+use Rattle.theorems.proofs.PairRows.{tested-iff, tested-false}
 
 module _ (h m g : ℕ) (shape : inShape h m ≡ true) (taken : g < messages h m) where
   pub word-partner : GolayPair h m (word h m g) (partner h m g)
@@ -57,7 +58,7 @@ module _ (h m g : ℕ) (shape : inShape h m ≡ true) (taken : g < messages h m)
   lists-yes : gives true ≡ pairOutcome h m (wordOf h m g) (partnerOf h m g)
   lists-yes =
       ap gives (sym lists-pair)
-      ∙ pair-tested h m (wordOf h m g) (partnerOf h m g) (wordOf-symbols h m g shape) (partnerOf-symbols h m g shape)
+      ∙ pair-given h m (wordOf h m g) (partnerOf h m g) (wordOf-symbols h m g shape) (partnerOf-symbols h m g shape)
 
 pub written-yes : (h m g : ℕ) (d e w v : List ℕ) (t : Paired) → Encodes h m g d w → Partners h m g e v →
     pairedTold t ≡ pairOutcome h m w v → t ≡ Yes
@@ -71,7 +72,7 @@ self-not-pair h m a p q pair = true≢false (sym (golayPair-iff h m a a .1 pair)
 module _ (h m : ℕ) (w v : List ℕ) (r : Paired) (a : Symbols h m w) (b : Symbols h m v)
     (told : pairedTold r ≡ pairOutcome h m w v) where
   given : pairedTold r ≡ gives (golayPair h m (symbolAt w) (symbolAt v))
-  given = told ∙ sym (pair-tested h m w v a b)
+  given = told ∙ sym (pair-given h m w v a b)
 
   pub yes-iff-pair : (r ≡ Yes) ↔ GolayPair h m (symbolAt w) (symbolAt v)
   yes-iff-pair =

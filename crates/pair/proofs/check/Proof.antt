@@ -21,6 +21,7 @@ use Rattle.pair.proofs.Outcomes.{
   pair-first-symbol,
   pair-second-symbol,
   pair-given,
+  word-in-range,
   pair-words,
 }
 use Rattle.pair.proofs.check.Statement.{statement}
@@ -130,7 +131,8 @@ answered : (c : tie.After-all-shifts) → let args = entry (past (told (c .befor
 answered c =
     let s = sized (past (told (c .before))) in
     ap gives (c .all-shifts .ensures _ (s .first))
-    ∙ pair-given _ _ _ _ _ s (first-good (told (c .before))) (second-good (c .before))
+    ∙ pair-given _ _ _ _ (word-in-range _ _ _ _ _ s _ (s .first) (first-good (told (c .before))))
+    (word-in-range _ _ _ _ _ s _ (s .second) (second-good (c .before)))
 
 returns-6 : tie.Need-returns-6
 returns-6 c = ap gives (sym (c .if4 .taken)) ∙ answered (c .before)
