@@ -4,6 +4,7 @@ pub mod Rows
 pub mod PairRows
 pub mod DecodingRows
 pub mod TransformRows
+pub mod Transforming
 pub mod Formula
 pub mod Pairs
 pub mod Damage

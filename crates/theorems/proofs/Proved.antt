@@ -46,9 +46,10 @@ use Rattle.theorems.proofs.Slices.{labelled-symbols, sent-writes, sent-
 use Rattle.theorems.proofs.Rows.{exactly, send-row, send-only, read-row, read-only, row-found, row-none}
 use Rattle.theorems.proofs.PairRows.{pair-row, pair-only}
 use Rattle.theorems.proofs.DecodingRows.{soft-exactly, hard-exactly}
-use Rattle.theorems.proofs.TransformRows.{transform-row, transform-only, areas-even, areas-odd, tails-stay}
-use Rattle.theorems.proofs.TransformRows.{run-even, run-odd, run-keeps, question-again, part-spectrum, part-even}
-use Rattle.theorems.proofs.TransformRows.{part-odd, transform-keeps, transform-empty}
+use Rattle.theorems.proofs.TransformRows.{transform-row, transform-only}
+use Rattle.theorems.proofs.Transforming.{areas-even, areas-odd, run-even, run-odd, run-keeps, tails-stay}
+use Rattle.theorems.proofs.Transforming.{question-again, part-spectrum, part-even, part-odd, transform-keeps}
+use Rattle.theorems.proofs.Transforming.{transform-empty}
 use Rattle.theorems.proofs.Formula.{label-order-iff, parts-message, path-used, word-formula, partner-formula}
 use Rattle.theorems.proofs.Pairs.{word-partner, partner-cancels, written-yes, self-not-pair, self-no}
 use Rattle.theorems.proofs.Pairs.{yes-iff-pair, yes-iff-cancel, no-iff-not-cancel, envelope-together}
