@@ -26,7 +26,8 @@ use Rattle.words.proofs.Used.{used-lt}
 use Rattle.words.proofs.Forms.{wordOf-at}
 use Rattle.distances.proofs.Apart.{hamming-listed}
 
-pub wordAt-inj : (h m l k : ℕ) → 1 ≤ h → 2 ≤ m → labelPath h m l < length (paths m) → labelPath h m k < length (paths m) →
+pub wordAt-inj : (h m l k : ℕ) → 1 ≤ h → 2 ≤ m → labelPath h m l < length (paths m) →
+    labelPath h m k < length (paths m) →
     ((i : ℕ) → i < carriers m → wordAt h m l i ≡ wordAt h m k i) → l ≡ k
 wordAt-inj h m l k one two ll lk same =
     Dec·not-not (ℕ-discrete l k) .0 (λ n. omega (

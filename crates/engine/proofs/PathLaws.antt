@@ -1,6 +1,6 @@
--- The labels of one path: specs/Tables.antt, OnePath. In order: its first label is one, and so are the others; powers to
--- m, as the stages count them; the areas have room for the first table; the path's own word can be put into the gains;
--- the first table, of which the stages may begin; what they answer, in terms of totals.
+-- The labels of one path: specs/Tables.antt, OnePath. In order: its first label is one, and so are the others; powers
+-- to m, as the stages count them; the areas have room for the first table; the path's own word can be put into the
+-- gains; the first table, of which the stages may begin; what they answer, in terms of totals.
 -- Not here: the labels of all paths (AllPaths), the stages (Climbing).  Assumes nothing.
 use Prim.Native.Nat.{ℕ, suc, _+_, _-_, _*_, _^_, _≤_, _<_}
 use native.Mathlib.Nat.{one-mul, mul-le-mul, le-refl, pow-suc, pow-succ', pow-le-pow-left, one-le-pow}
@@ -129,7 +129,8 @@ module _ (h m q half l : ℕ) (g w xs ys : List ℕ) (p : OnePath h m q half l g
           r ≡ leadFrom l (λ j. totalOf h m g (l + j)) (phases h ^ (m + 1)) st
       path-returned st r back =
           let a : wanted q half 1 l zs st (m - 1)
-          ≡ leadFrom l (byLabel q (phases h ^ m) (climbs q m 1 (gainsWith q (carriers m) v g))) (phases h ^ (m + 1)) st =
+          ≡ leadFrom l (byLabel q (phases h ^ m) (climbs q m 1 (gainsWith q (carriers m) v g)))
+          (phases h ^ (m + 1)) st =
           rw (size, width, table-first, stages) in
           back ∙ a ∙ leadFrom-cong l _ _ (phases h ^ (m + 1)) st total
         where

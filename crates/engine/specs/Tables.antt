@@ -8,8 +8,8 @@
 --                                 and go to and fro between xs and ys; the labels are counted from l
 --           tableIn q half w xs   the table at the front of the area xs
 --           Rooms m w xs ys       the areas have room for a word, and for the tables of two or four phases
---           AllPaths h m q half size uses g w xs ys    all paths may be searched with the gains g, by way of the areas w
---                                 for a word, and xs and ys for tables
+--           AllPaths h m q half size uses g w xs ys    all paths may be searched with the gains g, by way of the areas
+--                                 w for a word, and xs and ys for tables
 --           OnePath h m q half l g w xs ys    the labels of the path whose first label is l may be searched so
 -- Laws: proofs/RunLaws.antt, Climbing.antt, PathLaws.antt, AllPaths.antt.  Assumes nothing: these are definitions.
 use Prim.Native.Nat.{ℕ, suc, _+_, _-_, _*_, _^_, _≤_, _<_}

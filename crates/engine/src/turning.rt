@@ -12,7 +12,8 @@ ghost use Rattle.engine.specs.Tables.{WordFits};
 pub(super) fn start(q: usize, word: &[u8], gains: &[u32], to: &mut [u32])
     requires { ⌜ WordFits q (now word) (now gains) ⌝ }
     requires { ⌜ length (now to) ≡ q * length (now word) ⌝ }
-    ensures { λ _. ⌜ now (to .exit) ≡ gainsWith q (length (now (word .entry))) (now (word .entry)) (now (gains .entry)) ⌝ }
+    ensures { λ _. ⌜ now (to .exit)
+        ≡ gainsWith q (length (now (word .entry))) (now (word .entry)) (now (gains .entry)) ⌝ }
 {
     let n = word.len();
     let mut o = 0;

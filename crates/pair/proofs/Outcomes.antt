@@ -1,6 +1,6 @@
 -- What the pair check is to answer on each way out of the code.
--- In order: the shape refused; a length; two words in range, which are left to the counts; past the lengths: a symbol, a
--- word in range, and what the counts require.  Assumes nothing.
+-- In order: the shape refused; a length; two words in range, which are left to the counts; past the lengths: a symbol,
+-- a word in range, and what the counts require.  Assumes nothing.
 use Prim.Native.Nat.{ℕ}
 use mathlib.Core.Path.{_≡_, sym}
 use mathlib.Core.Bool.{true, false}

@@ -1,7 +1,7 @@
 -- THE LAW of order: the paths of m stand in dictionary order, hence each once.
 -- In order: lists that begin with one number, and with one number after the other; 1, .., m; the orders of
 -- an increasing list; the paths; a path has one number.
--- Not here: which lists are paths (Members); that dictionary order has a direction (rules, OrderLaws).  Assumes nothing.
+-- Not here: which lists are paths (Members); that the order has a direction (rules, OrderLaws).  Assumes nothing.
 use Prim.Native.Nat.{ℕ, zero, suc, _<_, suc-le-suc}
 use native.Mathlib.Decide.{decLt}
 use native.Mathlib.Omega.{arith}

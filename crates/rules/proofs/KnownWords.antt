@@ -62,7 +62,8 @@ hard-right = record {
   taken = refl;
   inside = lit< tt;
   nearest = best-of-tests (labels 1 2) AtLeast (λ k. distance 1 4 (symbolAt (1 ∷ 1 ∷ 1 ∷ 1 ∷ [])) (wordAt 1 2 k))
-      (λ d e. leb e d) (λ d e t. omega (arith, leb→le e d t)) 1 3 (lit< tt) (lit< tt) (eqb-false 3 1 refl) refl tt refl refl;
+      (λ d e. leb e d) (λ d e t. omega (arith, leb→le e d t)) 1 3 (lit< tt) (lit< tt) (eqb-false 3 1 refl) refl tt
+      refl refl;
 }
 
 -- zeros of the right length are not refused

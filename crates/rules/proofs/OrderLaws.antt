@@ -1,6 +1,6 @@
 -- Laws of dictionary order: rules' Path, Before. It has a direction: what comes before a list does not come after it,
--- and the order goes on from list to list. In order: asymmetric; so no list comes before itself, or before an equal one;
--- transitive.
+-- and the order goes on from list to list. In order: asymmetric; so no list comes before itself, or before an equal
+-- one; transitive.
 -- Not here: that paths and labels stand in this order (crates paths and words).  Assumes nothing.
 use Prim.Native.Nat.{ℕ}
 use native.Mathlib.Omega.{arith}

@@ -1,6 +1,6 @@
--- Small sums done by hand, of the rules that no starred case reaches: dictionary order, the spectrum and its stages, what
--- a four-phase symbol hears, refusal 6, Lee distance, the powers of a phase, autocorrelations, envelope powers, and clean
--- soft values. What a transform leaves and refuses: AreaSamples.  Assumes nothing.
+-- Small sums done by hand, of the rules that no starred case reaches: dictionary order, the spectrum and its stages,
+-- what a four-phase symbol hears, refusal 6, Lee distance, the powers of a phase, autocorrelations, envelope powers,
+-- and clean soft values. What a transform leaves and refuses: AreaSamples.  Assumes nothing.
 use Prim.Native.Nat.{ℕ, suc}
 use mathlib.Core.Path.{_≡_, refl}
 use mathlib.Core.List.{[], _∷_}

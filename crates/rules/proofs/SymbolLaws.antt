@@ -1,6 +1,6 @@
--- Laws of symbols: rules' Symbols, Table and Word. In order: the symbols of a word and of its partner lie below 2^h; where
--- no bad symbol is found every symbol is below q, and back; symbols in range, from what the tests of the table found,
--- and back.
+-- Laws of symbols: rules' Symbols, Table and Word. In order: the symbols of a word and of its partner lie below 2^h;
+-- where no bad symbol is found every symbol is below q, and back; symbols in range, from what the tests of the table
+-- found, and back.
 -- Not here: what the symbols of a word are (crate words).  Assumes nothing.
 use Prim.Native.Nat.{ℕ, _<_}
 use native.Mathlib.Nat.{mod-lt}

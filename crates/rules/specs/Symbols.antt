@@ -1,5 +1,5 @@
--- Symbols that could be a word: 01 "What a logger may send". What a call that takes a word asks of it before it looks any
--- further: reader, pair check, hard decoder and the index of theorems say it so.
+-- Symbols that could be a word: 01 "What a logger may send". What a call that takes a word asks of it before it looks
+-- any further: reader, pair check, hard decoder and the index of theorems say it so.
 -- Defines:  Symbols h m w    w is N symbols below 2^h, of a shape in range
 -- Laws: proofs/SymbolLaws.antt.  Assumes nothing: this is a definition.
 use Prim.Native.Nat.{ℕ, _<_}

@@ -1,6 +1,6 @@
 -- What soft and hard decoding tell is exactly what the rows of their tables say (specs/Rows.antt). In order: a refusal,
--- told of another kind of answer; soft decoding: the ways that its tests go, the row of each outcome, and the outcome of
--- each row; the same of hard decoding.
+-- told of another kind of answer; soft decoding: the ways that its tests go, the row of each outcome, and the outcome
+-- of each row; the same of hard decoding.
 -- Not here: the other calls (Rows, PairRows, TransformRows).  Assumes nothing.
 use Prim.Native.Nat.{ℕ}
 use native.Mathlib.Decide.{ℕ-discrete}
@@ -96,7 +96,8 @@ module _ (h m : ℕ) (w : List ℕ) where
   hard-row (gives a) p =
       hard-cases (λ o. o ≡ allowed → HardRow h m w (gives a)) (λ s e. absurd (gives-not-refuses (sym e)))
       (λ s t e. absurd (gives-not-refuses (sym e))) (λ s t l e. absurd (gives-not-refuses (sym e)))
-      (λ i s t l b e. absurd (gives-not-refuses (sym e))) (λ t s e. hard-gives a t s (p .inside) (p .nearest)) (p .taken)
+      (λ i s t l b e. absurd (gives-not-refuses (sym e)))
+      (λ t s e. hard-gives a t s (p .inside) (p .nearest)) (p .taken)
   hard-row (refuses k v) p =
       hard-cases (λ o. o ≡ refuses k v → HardRow h m w (refuses k v))
       (λ s e. subst (HardRow h m w) (refused-again e) (hard-1 s))

@@ -1,5 +1,5 @@
--- Paths, labels and words as 01 writes them. In order: the links of a path as a sum; label order, both ways; the message
--- of given parts; the path of a message; the formula of a word and of a partner, at a place.
+-- Paths, labels and words as 01 writes them. In order: the links of a path as a sum; label order, both ways; the
+-- message of given parts; the path of a message; the formula of a word and of a partner, at a place.
 -- Not here: the laws of paths (crate paths), of labels and their order (crate words).  Assumes nothing.
 use Prim.Native.Nat.{ℕ, suc, _+_, _-_, _*_, _%_, _^_, _≤_, _<_}
 use native.Mathlib.Decide.{decLt}

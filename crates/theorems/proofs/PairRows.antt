@@ -1,6 +1,6 @@
 -- What the pair check tells is exactly what the rows of its table say (specs/Rows.antt): a row holds of what the rules
--- say is told, and every row that holds says that. In order: the test of a pair is whether two words cancel; the row that
--- holds; what the rows say.
+-- say is told, and every row that holds says that. In order: the test of a pair is whether two words cancel; the row
+-- that holds; what the rows say.
 -- Not here: the other calls (Rows, DecodingRows, TransformRows).  Assumes nothing.
 use Prim.Native.Nat.{ℕ}
 use native.Mathlib.Decide.{ℕ-discrete}

@@ -134,7 +134,8 @@ demand2 = record {
   );
   read-unused = λ h m l r shape unused listed e.
       let t = inShape-range h m shape in
-      read-exactly h m (listBelow (carriers m) (wordAt h m l)) e (refuses 5 []) .1 (read-5 (labelled-symbols h m l shape)
+      read-exactly h m (listBelow (carriers m) (wordAt h m l)) e (refuses 5 []) .1
+      (read-5 (labelled-symbols h m l shape)
       (λ g b. unused-not-wordOf m (range-inM h m t) h l g (t .h-least) unused listed b));
   word-partner = word-partner;
   written-yes = written-yes;

@@ -1,6 +1,6 @@
--- What the decoders and word reading answer to a word as it was written. In order: how far the word lies from itself and
--- from others; hard decoding of the word, soft decoding of its clean values; the same, and word reading, of what encode
--- leaves in a slice; 01's case of sixteen symbols.
+-- What the decoders and word reading answer to a word as it was written. In order: how far the word lies from itself
+-- and from others; hard decoding of the word, soft decoding of its clean values; the same, and word reading, of what
+-- encode leaves in a slice; 01's case of sixteen symbols.
 -- Not here: words with damage (Damage), that the word sent has the greatest correlation (crate signals, Noiseless), how
 -- far words stand apart (crate distances).  Assumes nothing.
 use Prim.Native.Nat.{ℕ, _*_, _≤_, _<_}

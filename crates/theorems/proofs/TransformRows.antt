@@ -1,7 +1,7 @@
 -- What the question about a transform tells is exactly what the rows of its table say (specs/Rows.antt): a row holds of
 -- what the rules say is told, and every row that holds says that. In order: the first value out of range; the row that
 -- holds; what the rows say.
--- Not here: what the transform then does (Transforming); the other calls (Rows, PairRows, DecodingRows).  Assumes nothing.
+-- Not here: what the transform then does (Transforming); other calls (Rows, PairRows, DecodingRows).  Assumes nothing.
 use Prim.Native.Nat.{ℕ, _-_, _≤_, _<_}
 use native.Mathlib.Decide.{decLt}
 use native.Mathlib.Omega.{arith}

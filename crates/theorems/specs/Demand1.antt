@@ -1,11 +1,11 @@
 -- DEMAND 1 (docs/RULES.md, D1): anything may be handed in; refused by number exactly when the table says so; a refusal
 -- writes nothing; every answer is pinned down.
--- That anything may be handed in is that no call has a requires; that every call ends is what the checker proves of every
--- function. A slice lent for reading stays what it is by its type alone (src/lib.rt), so the claims speak of the slices
--- that a call may write: those of encode and partner, and the areas of the transform and of its core, `run`.
--- A claim takes what a call ensures as its premise: encoder's `Sent`, decoder's `Hears` and `Matches`, transform's `Ran`,
--- `Handed` and `AtLast` (what the areas hold at last, whole; `AtLastOf x y a b` says that they hold a and b), and the
--- equations of what is told. The rows: Rows.antt.
+-- That anything may be handed in is that no call has a requires; that every call ends is what the checker proves of
+-- every function. A slice lent for reading stays what it is by its type alone (src/lib.rt), so the claims speak of the
+-- slices that a call may write: those of encode and partner, and the areas of the transform and of its core, `run`.
+-- A claim takes what a call ensures as its premise: encoder's `Sent`, decoder's `Hears` and `Matches`, transform's
+-- `Ran`, `Handed` and `AtLast` (what the areas hold at last, whole; `AtLastOf x y a b` says that they hold a and b),
+-- and the equations of what is told. The rows: Rows.antt.
 -- Defines:  Demand1    the claims
 -- Proved in proofs/Proved.antt.  Assumes nothing: these are definitions.
 use Prim.Native.Nat.{ℕ}
@@ -79,8 +79,8 @@ pub record Demand1 : Type 2 where
   pub transform-keeps : (m : ℕ) (x y r : RefT (List ℤ)) → Handed m x y r →
       (k : ℕ) (v : List ℕ) → TransformRow m (now x) (now y) (refuses k v) →
       (now r ≡ []) × (ptr r ≡ ptr x) × (AtLast m x y ≡ AtLastOf x y (now x) (now y))
-  -- EVERY ANSWER IS PINNED DOWN (D1.5). Two endings that both keep a call's promise are one: the answer, and every slice
-  -- and area that the call may write, whole.
+  -- EVERY ANSWER IS PINNED DOWN (D1.5). Two endings that both keep a call's promise are one: the answer, and every
+  -- slice and area that the call may write, whole.
   pub encode-one : (h m g : ℕ) (d : List ℕ) (r s : Written) (w v : List ℕ) →
       Sent h m g (wordOf h m g) d r w → Sent h m g (wordOf h m g) d s v → (r ≡ s) × (w ≡ v)
   pub partner-one : (h m g : ℕ) (d : List ℕ) (r s : Written) (w v : List ℕ) →

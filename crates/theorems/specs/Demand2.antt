@@ -1,6 +1,6 @@
--- DEMAND 2 (docs/RULES.md, D2): a message's word is the one that the paper's formula gives, and reading finds its message
--- exactly when it has one; the partner cancels the word's autocorrelation, and the pair check says yes exactly to words
--- that cancel; the decoders answer the greatest correlation and the nearest word.
+-- DEMAND 2 (docs/RULES.md, D2): a message's word is the one that the paper's formula gives, and reading finds its
+-- message exactly when it has one; the partner cancels the word's autocorrelation, and the pair check says yes exactly
+-- to words that cancel; the decoders answer the greatest correlation and the nearest word.
 -- A claim about a call takes what the call ensures as its premise. `Symbols h m w` says that w is N symbols in range.
 -- Defines:  Demand2    the claims
 -- Proved in proofs/Proved.antt.  Assumes nothing: these are definitions.
@@ -48,9 +48,9 @@ pub record Demand2 : Type 0 where
   pub before-trans : (p q s : List ℕ) → Before p q → Before q s → Before p s
   pub paths-number : (m : ℕ) → 2 ≤ m → 2 * length (paths m) ≡ m !
   pub paths-used : (m : ℕ) → inM m ≡ true → (pathsInUse m ≤ length (paths m)) × (length (paths m) < 2 * pathsInUse m)
-  -- LABELS. Label numbers are in label order: by path number, then c_1, .., c_m, then c. The bits of a message number are
-  -- those of its path number, highest, then of c_1 to c_m, then of c, h plain binary bits each. A message has a path in
-  -- use and coefficients below 2^h, and every choice of these is a message's.
+  -- LABELS. Label numbers are in label order: by path number, then c_1, .., c_m, then c. The bits of a message number
+  -- are those of its path number, highest, then of c_1 to c_m, then of c, h plain binary bits each. A message has a
+  -- path in use and coefficients below 2^h, and every choice of these is a message's.
   pub label-order : (h m l k : ℕ) → (l < k) ↔ Before (labelParts h m l) (labelParts h m k)
   pub message-bits : (h m g : ℕ) → let l = labelOf h m g in (labelPath h m l ≡ g / 2 ^ (h * (m + 1)))
       × ((k : ℕ) → coefficient h m l k ≡ g / 2 ^ (h * (m + 1 - k)) % 2 ^ h) × (constant h l ≡ g % 2 ^ h)
@@ -69,7 +69,8 @@ pub record Demand2 : Type 0 where
       + sumBelow m (λ k. coefficient h m l (suc k) * x (suc k)) + constant h l) % 2 ^ h)
   -- The partner (001, Theorem 3): the word plus 2^(h-1) x_p(1).
   pub partner-formula : (h m g i : ℕ) → i < carriers m → symbolAt (partnerOf h m g) i
-      ≡ (symbolAt (wordOf h m g) i + 2 ^ (h - 1) * digit m i (headOf (pathAt m (labelPath h m (labelOf h m g))))) % 2 ^ h
+      ≡ (symbolAt (wordOf h m g) i
+      + 2 ^ (h - 1) * digit m i (headOf (pathAt m (labelPath h m (labelOf h m g))))) % 2 ^ h
   -- Encode writes the word and partner the partner, for every message of every shape, wherever the slice has N places.
   pub encode-writes : (h m g : ℕ) (d w : List ℕ) (r : Written) → inShape h m ≡ true → length d ≡ carriers m →
       g < messages h m → Sent h m g (wordOf h m g) d r w → (r ≡ Done) × (w ≡ wordOf h m g)
@@ -85,18 +86,18 @@ pub record Demand2 : Type 0 where
   pub read-unused : (h m l : ℕ) (r : Reading) → inShape h m ≡ true → pathsInUse m ≤ labelPath h m l →
       labelPath h m l < length (paths m) → readingTold r ≡ readOutcome h m (listBelow (carriers m) (wordAt h m l)) →
       readingTold r ≡ refuses 5 []
-  -- PAIRS (001, Theorem 3). The word and the partner of every message of every shape are a pair, and the pair check says
-  -- yes to what encode and partner write.
+  -- PAIRS (001, Theorem 3). The word and the partner of every message of every shape are a pair, and the pair check
+  -- says yes to what encode and partner write.
   pub word-partner : (h m g : ℕ) → inShape h m ≡ true → g < messages h m → GolayPair h m (word h m g) (partner h m g)
   pub written-yes : (h m g : ℕ) (d e w v : List ℕ) (r : Paired) → Encodes h m g d w → Partners h m g e v →
       pairedTold r ≡ pairOutcome h m w v → r ≡ Yes
-  -- The counts are 001's condition (Definition 1): for any two words of any length, every h from 1 on and every shift u,
-  -- they agree at u exactly where C_a(u) + C_b(u) = 0.
+  -- The counts are 001's condition (Definition 1): for any two words of any length, every h from 1 on and every shift
+  -- u, they agree at u exactly where C_a(u) + C_b(u) = 0.
   pub counts-iff-zero : (h n : ℕ) (a b : ℕ → ℕ) (u : ℕ) → 1 ≤ h →
       ((k : ℕ) → k < phases h → pairCount h n a b u k ≡ pairCount h n a b u (k + halfTurn h))
       ↔ ((t : ℕ) → t < halfTurn h → autocorrelation h n a u t +ℤ autocorrelation h n b u t ≡ pos 0)
-  -- The partner cancels the word's aperiodic autocorrelation at every shift from 1 to N - 1; from N on the sums are empty,
-  -- and at -u the autocorrelation is the conjugate of that at u.
+  -- The partner cancels the word's aperiodic autocorrelation at every shift from 1 to N - 1; from N on the sums are
+  -- empty, and at -u the autocorrelation is the conjugate of that at u.
   pub partner-cancels : (h m g : ℕ) → inShape h m ≡ true → g < messages h m → Cancel h m (word h m g) (partner h m g)
   -- Of any two words of a shape, the pair check says yes exactly to Golay pairs, which are those that cancel, and no
   -- exactly to the others.
@@ -109,8 +110,8 @@ pub record Demand2 : Type 0 where
   -- A word paired with itself is never a pair, and gets a no.
   pub self-not-pair : (h m : ℕ) (a : ℕ → ℕ) → 1 ≤ h → 1 ≤ m → GolayPair h m a a → ⊥
   pub self-no : (h m : ℕ) (w : List ℕ) (r : Paired) → Symbols h m w → pairedTold r ≡ pairOutcome h m w w → r ≡ No
-  -- DECODERS, for two and four phases. What is found has the greatest correlation of all words of the shape, or the least
-  -- distance; it is the first in label order that has it, and tied exactly where another has it too.
+  -- DECODERS, for two and four phases. What is found has the greatest correlation of all words of the shape, or the
+  -- least distance; it is the first in label order that has it, and tied exactly where another has it too.
   pub soft-greatest : (h m : ℕ) (ys : List ℤ) (a : Loudest) → Hears h m ys (Heard·Found a) →
       Greatest h m ys (labelOf h m (a .message .0)) (a .correlation) (a .tied)
   pub hard-nearest : (h m : ℕ) (w : List ℕ) (a : Closest) → Matches h m w (Matched·Found a) →

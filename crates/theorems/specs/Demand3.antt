@@ -24,8 +24,8 @@ pub record Demand3 : Type 0 where
   -- With four or eight phases their Lee distance is at least 2^(m-1).
   pub lee-apart : (h m g g′ : ℕ) → inShape h m ≡ true → 2 ≤ h → g < messages h m → g′ < messages h m → g ≢ g′ →
       2 ^ (m - 1) ≤ lee h (carriers m) (word h m g) (word h m g′)
-  -- DAMAGE. Two phases: where every symbol is still in range and twice the changed places is below 2^(m-2), hard decoding
-  -- gives the message sent, the number of changed places, and no tie.
+  -- DAMAGE. Two phases: where every symbol is still in range and twice the changed places is below 2^(m-2), hard
+  -- decoding gives the message sent, the number of changed places, and no tie.
   pub damage-two : (m g : ℕ) (w : List ℕ) (r : Matched) → Symbols 1 m w → g < messages 1 m →
       let d = hamming (carriers m) (symbolAt w) (word 1 m g) in 2 * d < 2 ^ (m - 2) → Matches 1 m w r →
       matchedTold r ≡ gives (record { message = g; distance = d; tied = false })

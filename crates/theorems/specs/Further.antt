@@ -1,5 +1,5 @@
--- FURTHER FACTS: round trips; what 01 says of correlations, unit soft values and the case of sixteen symbols; peak power
--- (docs/RULES.md, Soft, Distance, Known, Fact).
+-- FURTHER FACTS: round trips; what 01 says of correlations, unit soft values and the case of sixteen symbols; peak
+-- power (docs/RULES.md, Soft, Distance, Known, Fact).
 -- Defines:  Further    the claims
 -- Proved in proofs/Proved.antt.  Assumes nothing: these are definitions.
 use Prim.Native.Nat.{ℕ, _*_, _≤_, _<_}
@@ -52,9 +52,9 @@ pub record Further : Type 0 where
   pub sixteen : (r : Matched) →
       Matches 1 4 (1 ∷ 0 ∷ 0 ∷ 1 ∷ 0 ∷ 0 ∷ 1 ∷ 0 ∷ 0 ∷ 0 ∷ 0 ∷ 1 ∷ 1 ∷ 1 ∷ 0 ∷ 1 ∷ []) r →
       matchedTold r ≡ gives (record { message = 0; distance = 1; tied = false })
-  -- PEAK POWER (the equation in the proof of 001's Theorem 2). At every moment s / 2^r of a symbol period, r from h on, the
-  -- envelope powers of word and partner add up to 2 N: 2 N at coordinate 0, and 0 at the others. Each is the square of a
-  -- size, so neither is above 2 N, as Theorem 2 says; that last step is one of real numbers, and is not stated here.
+  -- PEAK POWER (the equation in the proof of 001's Theorem 2). At every moment s / 2^r of a symbol period, r from h on,
+  -- the envelope powers of word and partner add up to 2 N: 2 N at coordinate 0, and 0 at the others. Each is the square
+  -- of a size, so neither is above 2 N, as Theorem 2 says; that last step, one of real numbers, is not stated here.
   pub envelope-together : (h m g r s t : ℕ) → inShape h m ≡ true → g < messages h m → h ≤ r → t < halfTurn r →
       envelopePower h (carriers m) (word h m g) r s t +ℤ envelopePower h (carriers m) (partner h m g) r s t
       ≡ pos (2 * carriers m * oneIf (eqb t 0))

@@ -10,8 +10,8 @@
 --           HardRow h m w o       hard decoding of w tells o
 --           TransformRow m a b o  the question about a transform of the areas a and b tells o
 -- The words of the rows: rules Shape, Symbols, Word, Autocorrelation (Cancel), Soft, Best, Decoding, Spectrum.
--- Proved in proofs/Rows.antt, PairRows.antt, DecodingRows.antt and TransformRows.antt: a call tells o exactly where a row
--- says so.  Assumes nothing: these are definitions.
+-- Proved in proofs/Rows.antt, PairRows.antt, DecodingRows.antt and TransformRows.antt: a call tells o exactly where a
+-- row says so.  Assumes nothing: these are definitions.
 use Prim.Native.Nat.{ℕ, _≤_, _<_}
 use mathlib.Core.Path.{_≡_}
 use mathlib.Core.Bool.{Bool, true, false}
@@ -61,7 +61,8 @@ pub data PairRow (h m : ℕ) (a b : List ℕ) : Outcome Bool → Type 0 where
 pub data ReadRow (h m : ℕ) (w : List ℕ) : Outcome ℕ → Type 0 where
   read-1 : inShape h m ≡ false → ReadRow h m w (refuses 1 [])
   read-2 : inShape h m ≡ true → length w ≢ carriers m → ReadRow h m w (refuses 2 [])
-  read-3 : (i : ℕ) → inShape h m ≡ true → length w ≡ carriers m → FirstTooGreat h w i → ReadRow h m w (refuses 3 (i ∷ []))
+  read-3 : (i : ℕ) → inShape h m ≡ true → length w ≡ carriers m → FirstTooGreat h w i →
+      ReadRow h m w (refuses 3 (i ∷ []))
   read-5 : Symbols h m w → ((g : ℕ) → g < messages h m → wordOf h m g ≢ w) → ReadRow h m w (refuses 5 [])
   read-gives : (g : ℕ) → inShape h m ≡ true → g < messages h m → wordOf h m g ≡ w → ReadRow h m w (gives g)
 

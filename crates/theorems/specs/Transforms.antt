@@ -1,7 +1,8 @@
--- THE TRANSFORM BY ITSELF (docs/RULES.md, Transform): what its part is, what its areas hold, and what the question about
--- it answers.
--- `TransformRow m a b allowed` says that nothing is refused. `Handed m x y r` is what the transform ensures of its part r,
--- and `AtLast m x y` of its areas, which `AtLastOf x y a b` says hold a and b at last; `Ran` is what its core, `run`, does.
+-- THE TRANSFORM BY ITSELF (docs/RULES.md, Transform): what its part is, what its areas hold, and what the question
+-- about it answers.
+-- `TransformRow m a b allowed` says that nothing is refused. `Handed m x y r` is what the transform ensures of its part
+-- r, and `AtLast m x y` of its areas, which `AtLastOf x y a b` says hold a and b at last; `Ran` is what its core,
+-- `run`, does.
 -- Which refusal is answered when, and that a refused transform changes nothing: Demand1.
 -- Defines:  Transforms    the claims
 -- Proved in proofs/Proved.antt.  Assumes nothing: these are definitions.
@@ -22,8 +23,8 @@ use Rattle.transform.specs.Told.{judgedTold, Ran, Handed, AtLast, AtLastOf}
 use Rattle.theorems.specs.Rows.{TransformRow}
 
 pub record Transforms : Type 1 where
-  -- THE PART is the spectrum of the first N entries of the first area, and stands at the front of the first area for even
-  -- m, of the second for odd m.
+  -- THE PART is the spectrum of the first N entries of the first area, and stands at the front of the first area for
+  -- even m, of the second for odd m.
   pub part-spectrum : (m : ℕ) (x y r : RefT (List ℤ)) → Handed m x y r → TransformRow m (now x) (now y) allowed →
       now r ≡ listBelow (carriers m) (spectrumAt m (entry (now x)))
   pub part-even : (m : ℕ) (x y r : RefT (List ℤ)) → Handed m x y r → TransformRow m (now x) (now y) allowed →
@@ -32,8 +33,8 @@ pub record Transforms : Type 1 where
       m % 2 ≡ 1 → ptr r ≡ ptr y
   -- After all m stages the spectrum stands.
   pub stages-spectrum : (m : ℕ) (y : ℕ → ℤ) (i : ℕ) → i < carriers m → stages m m y i ≡ spectrumAt m y i
-  -- THE AREAS, from N on as they were: for even m the spectrum at the front of the first and what stood after stage m - 1
-  -- at the front of the second, for odd m the other way round.
+  -- THE AREAS, from N on as they were: for even m the spectrum at the front of the first and what stood after stage
+  -- m - 1 at the front of the second, for odd m the other way round.
   pub areas-even : (m : ℕ) (x y : RefT (List ℤ)) → TransformRow m (now x) (now y) allowed → m % 2 ≡ 0 →
       AtLast m x y ≡ AtLastOf x y (filled (carriers m) (spectrumAt m (entry (now x))) (now x))
       (filled (carriers m) (stages m (m - 1) (entry (now x))) (now y))

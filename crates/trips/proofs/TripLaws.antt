@@ -33,7 +33,8 @@ module _ {h m g : ℕ} {d w : List ℕ} {s : Written} (p : Sent h m g (wordOf h 
   hard-trip {r} q = record {
     slice = p .slice;
     answer = q;
-    back = λ e two. theorems .further .hard-back h m g d w r two (sent-done h m g (wordOf h m g) d w e (sent-word p e)) q;
+    back = λ e two. theorems .further .hard-back h m g d w r two
+        (sent-done h m g (wordOf h m g) d w e (sent-word p e)) q;
   }
 
   pub check-trip : {b v : List ℕ} {t : Written} {r : Paired} → Sent h m g (partnerOf h m g) b t v →

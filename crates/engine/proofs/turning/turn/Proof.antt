@@ -86,7 +86,8 @@ stored c =
     let wrapped = c .before in
     let in-loop = turned (wrapped .before) in
     let args = start in-loop .args in
-    gainsWithAt-gain (args .q) _ (now (args .word)) (now (args .gains)) (args .s) (in-loop .before .loop .i) (args .o) _ _
+    gainsWithAt-gain (args .q) _ (now (args .word)) (now (args .gains)) (args .s) (in-loop .before .loop .i) (args .o)
+    _ _
     (in-loop .loop-test .taken) (start in-loop .pre .1 .1) (wrapped .before .index .ensures) (wrapped .wrap .ensures)
 
 index-requires : tie.Need-index-requires Inv-loop μ-loop
