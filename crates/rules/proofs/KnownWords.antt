@@ -24,7 +24,8 @@ use Rattle.rules.specs.Soft.{heard, correlation, softLength}
 use Rattle.rules.specs.Best.{AtMost, AtLeast}
 use Rattle.rules.specs.Outcome.{allowed}
 use Rattle.rules.specs.Table.{badShape, badSymbol, messageWith}
-use Rattle.rules.specs.Refusal.{sendRefusal, pairOutcome, readOutcome, softRefusal, hardRefusal, transformRefusal}
+use Rattle.rules.specs.Refusal.{sendRefusal, pairRefusal, pairOutcome, wordRefusal, readOutcome, softRefusal}
+use Rattle.rules.specs.Refusal.{hardRefusal, transformRefusal}
 use Rattle.rules.specs.Known.{Refused1, reaching, Right, AllRight, starred, fourLeast, outsideM, soft, hard}
 use Rattle.rules.specs.Known.{silence}
 use Rattle.rules.proofs.Range.{inShape-range}
@@ -33,7 +34,7 @@ use Rattle.rules.proofs.Silence.{greatest-of-zeros}
 
 -- a shape outside its range is refused 1 by every call
 refused-one : (h m : ℕ) → badShape h m ≡ true → Refused1 h m
-unfolding sendRefusal pairOutcome readOutcome softRefusal hardRefusal
+unfolding sendRefusal pairOutcome pairRefusal readOutcome wordRefusal softRefusal hardRefusal
 refused-one h m e n g a b ys = (rw e, rw e, rw e, rw e, rw e)
 
 outside-m : (m : ℕ) → inM m ≡ false → Right (outsideM m)
@@ -91,7 +92,7 @@ pub known : AllRight starred
 unfolding
     _&_ starred wordOf partnerOf wordAt partnerAt formAt links digit pathAt paths keep without orders upTo listBelow
     flatMap labelPath coefficient constant labelParts labelOf pathBits sumBelow countBelow allBelow firstBelow minus
-    phaseCount pairCount golayPair badSymbol messageWith sendRefusal pairOutcome readOutcome
+    phaseCount pairCount golayPair badSymbol messageWith sendRefusal pairRefusal pairOutcome wordRefusal readOutcome
 known =
     (refl, refl) & (refl, refl) & refl
     & (refl, refl) & (refl, refl) & (refl, refl)

@@ -1,13 +1,14 @@
 -- Laws of outcomes: rules' Outcome. In order: what is given is not refused, and is one thing; where something is
--- given, no test of the table held, and no place was found; a relation that fixes what is refused and what is given is
+-- given, no test of the table held, and no place was found; a claim about an outcome, test by test; a test after
+-- others, and two tests of one number; a relation that fixes what is refused and what is given is
 -- satisfied by one outcome.  Assumes nothing.
 use Prim.Native.Nat.{ℕ}
 use native.Mathlib.Omega.{arith}
 use mathlib.Core.Path.{_≡_, refl, sym, _∙_}
-use mathlib.Core.Bool.{Bool, true, false}
-use mathlib.Core.List.{List}
+use mathlib.Core.Bool.{Bool, true, false, _||_}
+use mathlib.Core.List.{List, [], _∷_}
 use mathlib.Core.Option.{Option, none, some}
-use Rattle.rules.specs.Outcome.{Outcome, gives, refuses, allowed, refuse, refuseAt}
+use Rattle.rules.specs.Outcome.{Outcome, gives, refuses, allowed, andThen, refuse, refuseAt}
 
 module _ {A : Type 0} where
   pub gives-not-refuses : {a : A} {k : ℕ} {v : List ℕ} → gives a ≡ refuses k v → ⊥
@@ -24,6 +25,39 @@ module _ {A : Type 0} where
       refuseAt k f more o ≡ gives a → (f ≡ none) × (o ≡ gives a)
   refuseAt-gives k none more o a e = (refl, e)
   refuseAt-gives k (some i) more o a e = absurd (gives-not-refuses (sym e))
+
+  -- a claim holds of an outcome where it holds whichever way its first test goes
+  pub refuse-cases : (P : Outcome A → Type 0) (k : ℕ) (t : Bool) (o : Outcome A) →
+      (t ≡ true → P (refuses k [])) → (t ≡ false → P o) → P (refuse k t o)
+  refuse-cases P k true o held passed = held refl
+  refuse-cases P k false o held passed = passed refl
+
+  pub refuseAt-cases : (P : Outcome A → Type 0) (k : ℕ) (f : Option ℕ) (more : List ℕ) (o : Outcome A) →
+      ((i : ℕ) → f ≡ some i → P (refuses k (i ∷ more))) → (f ≡ none → P o) → P (refuseAt k f more o)
+  refuseAt-cases P k (some i) more o found passed = found i refl
+  refuseAt-cases P k none more o found passed = passed refl
+
+  -- a test that comes after others stands behind them
+  pub andThen-refuse : (k : ℕ) (t : Bool) (r : Outcome (Unit {0})) (o : Outcome A) →
+      andThen (refuse k t r) o ≡ refuse k t (andThen r o)
+  andThen-refuse k true r o = refl
+  andThen-refuse k false r o = refl
+
+  pub andThen-refuseAt : (k : ℕ) (f : Option ℕ) (more : List ℕ) (r : Outcome (Unit {0})) (o : Outcome A) →
+      andThen (refuseAt k f more r) o ≡ refuseAt k f more (andThen r o)
+  andThen-refuseAt k (some i) more r o = refl
+  andThen-refuseAt k none more r o = refl
+
+  -- two tests of one number are one test
+  pub refuse-or : (k : ℕ) (s t : Bool) (o : Outcome A) → refuse k (s || t) o ≡ refuse k s (refuse k t o)
+  refuse-or k true t o = refl
+  refuse-or k false t o = refl
+
+  -- what is given behind other tests is given where they refuse nothing
+  pub andThen-gives : (r : Outcome (Unit {0})) (o : Outcome A) (a : A) → andThen r o ≡ gives a →
+      (r ≡ allowed) × (o ≡ gives a)
+  andThen-gives (gives tt) o a e = (refl, e)
+  andThen-gives (refuses k v) o a e = absurd (gives-not-refuses (sym e))
 
 -- a relation that says an outcome's refusal is r's, and of what is given that r refuses nothing and that it is alone
 module _ {A : Type 0} (S : Outcome A → Type 0) (r : Outcome (Unit {0}))

@@ -3,6 +3,7 @@
 --                                   the refusal carries
 --           allowed                 nothing is refused
 --           leaves o old new        new where o gives, old where o refuses
+--           andThen r o             o where r refuses nothing, else r's refusal
 --           refuse k test o         refusal k where the test holds, else o
 --           refuseAt k found more o refusal k with the place found, and more behind it, else o
 -- Laws: proofs/OutcomeLaws.antt.  Assumes nothing: these are definitions.
@@ -21,6 +22,10 @@ allowed = gives tt
 abbrev pub leaves : {A B : Type 0} → Outcome A → B → B → B
 leaves (gives a) old new = new
 leaves (refuses k v) old new = old
+
+abbrev pub andThen : {A : Type 0} → Outcome (Unit {0}) → Outcome A → Outcome A
+andThen (gives a) o = o
+andThen (refuses k v) o = refuses k v
 
 module _ {A : Type 0} where
   abbrev pub refuse : ℕ → Bool → Outcome A → Outcome A

@@ -1,16 +1,14 @@
--- What `power` and `takes` give for a shape in range.
--- In order: a power below 64 bits, the phases, the carriers; the limit of a message number; what `takes` says of one.
+-- What `power` gives. In order: a power below 64 bits, the phases and the carriers of a shape in range.
 -- Assumes nothing.
 use Prim.Native.Nat.{ℕ, _^_, _<_}
 use native.Mathlib.Omega.{arith}
-use mathlib.Core.Path.{_≡_, sym, _∙_, ap}
-use mathlib.Core.Bool.{Bool, true, not, cond, _&&_, Bool·not-not}
+use mathlib.Core.Path.{_≡_}
+use mathlib.Core.Bool.{true, cond}
 use lib.Dec.{ltb}
 use borrow.Author.Tests.{lt-ltb}
-use Rattle.range.proofs.Tests.{and-right, ltb-not-leb}
-use Rattle.rules.specs.Shape.{inH, inM, inShape, phases, carriers, messageBits}
-use Rattle.rules.specs.Table.{badMessage}
-use Rattle.rules.proofs.Range.{inM-range, inShape-range, messageBits-le}
+use Rattle.range.proofs.Tests.{and-right}
+use Rattle.rules.specs.Shape.{inH, inM, inShape, phases, carriers}
+use Rattle.rules.proofs.Range.{inM-range, inShape-range}
 
 -- what `power` gives below 64
 pub power-is : (e : ℕ) → e < 64 → cond (ltb e 64) (2 ^ e) 0 ≡ 2 ^ e
@@ -24,15 +22,3 @@ power-carriers-of-inM m e = power-is m (omega (arith, inM-range m e .1))
 
 pub power-carriers : (h m : ℕ) → inShape h m ≡ true → cond (ltb m 64) (2 ^ m) 0 ≡ carriers m
 power-carriers h m e = power-carriers-of-inM m (and-right (inH h) (inM m) e)
-
--- the limit of a message number fits 64 bits, so that the test against it is the table's
-pub takes-test : (h m g : ℕ) → inShape h m ≡ true →
-    ltb g (cond (ltb (messageBits h m) 64) (2 ^ messageBits h m) 0) ≡ (inShape h m && not (badMessage h m g))
-takes-test h m g e =
-    let b : messageBits h m < 64 = omega (arith, messageBits-le h m (inShape-range h m e)) in
-    rw (e, lt-ltb (messageBits h m) 64 b) (ltb-not-leb g (2 ^ messageBits h m))
-
--- what `takes` says of a message number, where the shape is in range
-pub takes-tells : (h m g : ℕ) (b : Bool) → inShape h m ≡ true → b ≡ (inShape h m && not (badMessage h m g)) →
-    badMessage h m g ≡ not b
-takes-tells h m g b e q = sym (Bool·not-not (badMessage h m g)) ∙ ap not (sym (rw e at q))

@@ -1,0 +1,3 @@
+-- Laws of the tests and of tests behind others.
+mod Tests
+mod Rungs

@@ -1,0 +1,100 @@
+-- What holds where a call refuses nothing: rules' Refusal, test by test.
+-- In order: encode and partner; one word; the pair check; soft values; hard decoding. For the decoders also that there
+-- are at most four phases.
+-- Not here: the transform (crate transform, which has a record for it).  Assumes nothing.
+use Prim.Native.Nat.{ℕ, _≤_, _<_}
+use native.Mathlib.Omega.{arith}
+use mathlib.Core.Path.{_≡_, sym}
+use mathlib.Core.Bool.{Bool, true, _||_}
+use mathlib.Core.List.{List, [], _∷_}
+use lib.IntN.{ℤ}
+use lib.ListN.{length}
+use borrow.Author.Tests.{eqb-true, eqb-false, leb-false, not-false}
+use Rattle.range.proofs.Tests.{or-false}
+use Rattle.rules.specs.Shape.{inShape, carriers, messages}
+use Rattle.rules.specs.Symbols.{Symbols}
+use Rattle.rules.specs.Soft.{softLength}
+use Rattle.rules.specs.Outcome.{allowed, refuse, refuseAt}
+use Rattle.rules.specs.Table.{badShape, badLength, badSymbol, badMessage, octary}
+use Rattle.rules.specs.Refusal.{sendRefusal, pairRefusal, refuseWord, wordRefusal, softRefusal, hardRefusal}
+use Rattle.rules.proofs.Range.{inShape-range}
+use Rattle.rules.proofs.OutcomeLaws.{refuse-gives, refuseAt-gives}
+use Rattle.rules.proofs.SymbolLaws.{symbols-of-none}
+
+pub record SendTaken (h m n g : ℕ) : Type 0 where
+  pub shape : inShape h m ≡ true
+  pub long : n ≡ carriers m
+  pub message : g < messages h m
+
+pub send-taken : (h m n g : ℕ) → sendRefusal h m n g ≡ allowed → SendTaken h m n g
+unfolding sendRefusal
+send-taken h m n g e =
+    let shape = refuse-gives 1 (badShape h m) _ tt e in
+    let long = refuse-gives 2 (badLength n (carriers m)) _ tt (shape .1) in
+    let message = refuse-gives 4 (badMessage h m g) allowed tt (long .1) in
+    record {
+      shape = not-false _ (shape .0);
+      long = eqb-true n (carriers m) (not-false _ (long .0));
+      message = leb-false (messages h m) g (message .0);
+    }
+
+-- one word, in a shape in range
+refuseWord-taken : (h m : ℕ) (w : List ℕ) → inShape h m ≡ true → refuseWord h m w allowed ≡ allowed → Symbols h m w
+refuseWord-taken h m w shape e =
+    let long = refuse-gives 2 (badLength (length w) (carriers m)) _ tt e in
+    let symbols = refuseAt-gives 3 (badSymbol h w) [] allowed tt (long .1) in
+    symbols-of-none h m w shape (eqb-true (length w) (carriers m) (not-false _ (long .0))) (sym (symbols .0))
+
+pub word-taken : (h m : ℕ) (w : List ℕ) → wordRefusal h m w ≡ allowed → Symbols h m w
+unfolding wordRefusal
+word-taken h m w e =
+    let shape = refuse-gives 1 (badShape h m) (refuseWord h m w allowed) tt e in
+    refuseWord-taken h m w (not-false _ (shape .0)) (shape .1)
+
+pub pair-taken : (h m : ℕ) (a b : List ℕ) → pairRefusal h m a b ≡ allowed → Symbols h m a × Symbols h m b
+unfolding pairRefusal
+pair-taken h m a b e =
+    let short : List ℕ → Bool = λ w. badLength (length w) (carriers m) in
+    let shape = refuse-gives 1 (badShape h m) _ tt e in
+    let both = refuse-gives 2 (short a || short b) _ tt (shape .1) in
+    let long = or-false (short a) (short b) (both .0) in
+    let first = refuseAt-gives 3 (badSymbol h a) (1 ∷ []) _ tt (both .1) in
+    let second = refuseAt-gives 3 (badSymbol h b) (2 ∷ []) allowed tt (first .1) in
+    let s = not-false _ (shape .0) in (
+      symbols-of-none h m a s (eqb-true (length a) (carriers m) (not-false _ (long .0))) (sym (first .0)),
+      symbols-of-none h m b s (eqb-true (length b) (carriers m) (not-false _ (long .1))) (sym (second .0)),
+    )
+
+-- of the phases of a shape in range, all but eight are four at most
+pub few-phases : (h m : ℕ) → inShape h m ≡ true → (h ≡ 3 → ⊥) → h ≤ 2
+few-phases h m e n = omega (arith, inShape-range h m e .h-most)
+
+pub record SoftTaken (h m : ℕ) (ys : List ℤ) : Type 0 where
+  pub shape : inShape h m ≡ true
+  pub few : h ≤ 2
+  pub long : length ys ≡ softLength h m
+
+pub soft-taken : (h m : ℕ) (ys : List ℤ) → softRefusal h m ys ≡ allowed → SoftTaken h m ys
+unfolding softRefusal
+soft-taken h m ys e =
+    let shape = refuse-gives 1 (badShape h m) _ tt e in
+    let few = refuse-gives 6 (octary h) _ tt (shape .1) in
+    let long = refuse-gives 2 (badLength (length ys) (softLength h m)) allowed tt (few .1) in
+    let s = not-false _ (shape .0) in
+    record {
+      shape = s;
+      few = few-phases h m s (eqb-false h 3 (few .0));
+      long = eqb-true (length ys) (softLength h m) (not-false _ (long .0));
+    }
+
+pub record HardTaken (h m : ℕ) (w : List ℕ) : Type 0 where
+  pub few : h ≤ 2
+  pub symbols : Symbols h m w
+
+pub hard-taken : (h m : ℕ) (w : List ℕ) → hardRefusal h m w ≡ allowed → HardTaken h m w
+unfolding hardRefusal
+hard-taken h m w e =
+    let shape = refuse-gives 1 (badShape h m) _ tt e in
+    let few = refuse-gives 6 (octary h) (refuseWord h m w allowed) tt (shape .1) in
+    let s = not-false _ (shape .0) in
+    record { few = few-phases h m s (eqb-false h 3 (few .0)); symbols = refuseWord-taken h m w s (few .1) }
