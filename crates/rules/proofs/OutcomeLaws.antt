@@ -4,7 +4,7 @@
 -- satisfied by one outcome.  Assumes nothing.
 use Prim.Native.Nat.{ℕ}
 use native.Mathlib.Omega.{arith}
-use mathlib.Core.Path.{_≡_, refl, sym, _∙_}
+use mathlib.Core.Path.{_≡_, refl, sym, _∙_, ap}
 use mathlib.Core.Bool.{Bool, true, false, _||_}
 use mathlib.Core.List.{List, [], _∷_}
 use mathlib.Core.Option.{Option, none, some}
@@ -52,6 +52,11 @@ module _ {A : Type 0} where
   pub refuse-or : (k : ℕ) (s t : Bool) (o : Outcome A) → refuse k (s || t) o ≡ refuse k s (refuse k t o)
   refuse-or k true t o = refl
   refuse-or k false t o = refl
+
+  -- what tests refuse is refused, whatever stands behind them
+  pub andThen-refused : {r : Outcome (Unit {0})} {k : ℕ} {v : List ℕ} (o : Outcome A) → refuses k v ≡ r →
+      refuses k v ≡ andThen r o
+  andThen-refused o e = ap (λ (x : Outcome (Unit {0})). andThen x o) e
 
   -- what is given behind other tests is given where they refuse nothing
   pub andThen-gives : (r : Outcome (Unit {0})) (o : Outcome A) (a : A) → andThen r o ≡ gives a →

@@ -1,4 +1,5 @@
--- What holds where a call refuses nothing: rules' Refusal, test by test.
+-- Where a call refuses nothing: rules' Refusal, test by test. Of each call first that nothing is refused where no test
+-- holds, then what holds where nothing is refused.
 -- In order: encode and partner; one word; the pair check; soft values; hard decoding. For the decoders also that there
 -- are at most four phases.
 -- Not here: the transform (crate transform, which has a record for it).  Assumes nothing.
@@ -9,7 +10,7 @@ use mathlib.Core.Bool.{Bool, true, _||_}
 use mathlib.Core.List.{List, [], _∷_}
 use lib.IntN.{ℤ}
 use lib.ListN.{length}
-use borrow.Author.Tests.{eqb-true, eqb-false, leb-false, not-false}
+use borrow.Author.Tests.{eqb-true, eqb-false, eq-eqb, ne-eqb, leb-false, lt-leb, not-false}
 use Rattle.range.proofs.Tests.{or-false}
 use Rattle.rules.specs.Shape.{inShape, carriers, messages}
 use Rattle.rules.specs.Symbols.{Symbols}
@@ -19,12 +20,16 @@ use Rattle.rules.specs.Table.{badShape, badLength, badSymbol, badMessage
 use Rattle.rules.specs.Refusal.{sendRefusal, pairRefusal, refuseWord, wordRefusal, softRefusal, hardRefusal}
 use Rattle.rules.proofs.Range.{inShape-range}
 use Rattle.rules.proofs.OutcomeLaws.{refuse-gives, refuseAt-gives}
-use Rattle.rules.proofs.SymbolLaws.{symbols-of-none}
+use Rattle.rules.proofs.SymbolLaws.{symbols-of-none, symbols-none}
 
 pub record SendTaken (h m n g : ℕ) : Type 0 where
   pub shape : inShape h m ≡ true
   pub long : n ≡ carriers m
   pub message : g < messages h m
+
+pub send-allowed : (h m n g : ℕ) → SendTaken h m n g → sendRefusal h m n g ≡ allowed
+unfolding sendRefusal
+send-allowed h m n g t = rw (t .shape, eq-eqb n (carriers m) (t .long), lt-leb (messages h m) g (t .message))
 
 pub send-taken : (h m n g : ℕ) → sendRefusal h m n g ≡ allowed → SendTaken h m n g
 unfolding sendRefusal
@@ -39,17 +44,35 @@ send-taken h m n g e =
     }
 
 -- one word, in a shape in range
+refuseWord-allowed : (h m : ℕ) (w : List ℕ) → Symbols h m w → refuseWord h m w allowed ≡ allowed
+refuseWord-allowed h m w s = rw (eq-eqb (length w) (carriers m) (s .long), sym (symbols-none h m w s))
+
 refuseWord-taken : (h m : ℕ) (w : List ℕ) → inShape h m ≡ true → refuseWord h m w allowed ≡ allowed → Symbols h m w
 refuseWord-taken h m w shape e =
     let long = refuse-gives 2 (badLength (length w) (carriers m)) _ tt e in
     let symbols = refuseAt-gives 3 (badSymbol h w) [] allowed tt (long .1) in
     symbols-of-none h m w shape (eqb-true (length w) (carriers m) (not-false _ (long .0))) (sym (symbols .0))
 
+pub word-allowed : (h m : ℕ) (w : List ℕ) → Symbols h m w → wordRefusal h m w ≡ allowed
+unfolding wordRefusal
+word-allowed h m w s = rw (s .shape) (refuseWord-allowed h m w s)
+
 pub word-taken : (h m : ℕ) (w : List ℕ) → wordRefusal h m w ≡ allowed → Symbols h m w
 unfolding wordRefusal
 word-taken h m w e =
     let shape = refuse-gives 1 (badShape h m) (refuseWord h m w allowed) tt e in
     refuseWord-taken h m w (not-false _ (shape .0)) (shape .1)
+
+pub pair-allowed : (h m : ℕ) (a b : List ℕ) → Symbols h m a → Symbols h m b → pairRefusal h m a b ≡ allowed
+unfolding pairRefusal
+pair-allowed h m a b p q =
+    rw (
+      p .shape,
+      eq-eqb (length a) (carriers m) (p .long),
+      eq-eqb (length b) (carriers m) (q .long),
+      sym (symbols-none h m a p),
+      sym (symbols-none h m b q),
+    )
 
 pub pair-taken : (h m : ℕ) (a b : List ℕ) → pairRefusal h m a b ≡ allowed → Symbols h m a × Symbols h m b
 unfolding pairRefusal
@@ -74,6 +97,11 @@ pub record SoftTaken (h m : ℕ) (ys : List ℤ) : Type 0 where
   pub few : h ≤ 2
   pub long : length ys ≡ softLength h m
 
+pub soft-allowed : (h m : ℕ) (ys : List ℤ) → SoftTaken h m ys → softRefusal h m ys ≡ allowed
+unfolding softRefusal
+soft-allowed h m ys t =
+    rw (t .shape, ne-eqb h 3 (λ e. omega (arith, t .few)), eq-eqb (length ys) (softLength h m) (t .long))
+
 pub soft-taken : (h m : ℕ) (ys : List ℤ) → softRefusal h m ys ≡ allowed → SoftTaken h m ys
 unfolding softRefusal
 soft-taken h m ys e =
@@ -90,6 +118,11 @@ soft-taken h m ys e =
 pub record HardTaken (h m : ℕ) (w : List ℕ) : Type 0 where
   pub few : h ≤ 2
   pub symbols : Symbols h m w
+
+pub hard-allowed : (h m : ℕ) (w : List ℕ) → HardTaken h m w → hardRefusal h m w ≡ allowed
+unfolding hardRefusal
+hard-allowed h m w t =
+    rw (t .symbols .shape, ne-eqb h 3 (λ e. omega (arith, t .few))) (refuseWord-allowed h m w (t .symbols))
 
 pub hard-taken : (h m : ℕ) (w : List ℕ) → hardRefusal h m w ≡ allowed → HardTaken h m w
 unfolding hardRefusal

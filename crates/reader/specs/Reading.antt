@@ -3,7 +3,7 @@
 -- The promise of `read` speaks of its answer through it.  Assumes nothing: this is a definition.
 use Prim.Native.Nat.{ℕ}
 use Rattle.rules.specs.Outcome.{Outcome, gives}
-use Rattle.kinds.specs.Told.{refusalTold}
+use Rattle.kinds.specs.Refusals.{refusalTold}
 use Rattle.reader.specs.declared.Reading.{Reading}
 use Rattle.reader.specs.declared.Reading.the-variants.{Found, Refused}
 
