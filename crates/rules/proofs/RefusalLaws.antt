@@ -1,23 +1,28 @@
 -- Where a call refuses nothing: rules' Refusal, test by test. Of each call first that nothing is refused where no test
 -- holds, then what holds where nothing is refused.
--- In order: encode and partner; one word; the pair check; soft values; hard decoding. For the decoders also that there
--- are at most four phases.
--- Not here: the transform (crate transform, which has a record for it).  Assumes nothing.
+-- In order: encode and partner; one word; the pair check; soft values; hard decoding; the transform. For the decoders
+-- also that there are at most four phases.
+-- Assumes nothing.
 use Prim.Native.Nat.{ℕ, _≤_, _<_}
 use native.Mathlib.Omega.{arith}
-use mathlib.Core.Path.{_≡_, sym}
-use mathlib.Core.Bool.{Bool, true, _||_}
+use mathlib.Core.Path.{_≡_, sym, ap}
+use mathlib.Core.Bool.{Bool, true, not, _||_}
 use mathlib.Core.List.{List, [], _∷_}
 use lib.IntN.{ℤ}
 use lib.ListN.{length}
-use borrow.Author.Tests.{eqb-true, eqb-false, eq-eqb, ne-eqb, leb-false, lt-leb, not-false}
-use Rattle.range.proofs.Tests.{or-false}
-use Rattle.rules.specs.Shape.{inShape, carriers, messages}
+use borrow.Author.Tests.{eqb-true, eqb-false, eq-eqb, ne-eqb, leb-false, lt-leb, ltb-false, le-ltb}
+use borrow.Author.Tests.{not-false}
+use Rattle.range.specs.Signed.{entry}
+use Rattle.range.proofs.Tests.{or-false, firstBelow-none, firstBelow-nowhere}
+use Rattle.rules.specs.Shape.{inM, inShape, carriers, messages}
 use Rattle.rules.specs.Symbols.{Symbols}
 use Rattle.rules.specs.Soft.{softLength}
+use Rattle.rules.specs.Spectrum.{accepted}
 use Rattle.rules.specs.Outcome.{allowed, refuse, refuseAt}
-use Rattle.rules.specs.Table.{badShape, badLength, badSymbol, badMessage, octary}
+use Rattle.rules.specs.Table.{badShape, badLength, badSymbol, badMessage, octary, shortArea}
+use Rattle.rules.specs.Table.{badValue}
 use Rattle.rules.specs.Refusal.{sendRefusal, pairRefusal, refuseWord, wordRefusal, softRefusal, hardRefusal}
+use Rattle.rules.specs.Refusal.{transformRefusal}
 use Rattle.rules.proofs.Range.{inShape-range}
 use Rattle.rules.proofs.OutcomeLaws.{refuse-gives, refuseAt-gives}
 use Rattle.rules.proofs.SymbolLaws.{symbols-of-none, symbols-none}
@@ -131,3 +136,33 @@ hard-taken h m w e =
     let few = refuse-gives 6 (octary h) (refuseWord h m w allowed) tt (shape .1) in
     let s = not-false _ (shape .0) in
     record { few = few-phases h m s (eqb-false h 3 (few .0)); symbols = refuseWord-taken h m w s (few .1) }
+
+pub record TransformTaken (m : ℕ) (a b : List ℤ) : Type 0 where
+  pub range : inM m ≡ true
+  pub first : carriers m ≤ length a
+  pub second : carriers m ≤ length b
+  pub values : (i : ℕ) → i < carriers m → accepted (entry a i) ≡ true
+
+pub transform-allowed : (m : ℕ) (a b : List ℤ) → TransformTaken m a b → transformRefusal m a (length b) ≡ allowed
+unfolding transformRefusal badValue
+transform-allowed m a b t =
+    rw (
+      t .range,
+      le-ltb (length a) (carriers m) (t .first),
+      le-ltb (length b) (carriers m) (t .second),
+      firstBelow-none (carriers m) _ (λ i l. ap not (t .values i l)),
+    )
+
+pub transform-taken : (m : ℕ) (a b : List ℤ) → transformRefusal m a (length b) ≡ allowed → TransformTaken m a b
+unfolding transformRefusal badValue
+transform-taken m a b e =
+    let range = refuse-gives 1 (not (inM m)) _ tt e in
+    let sizes = refuse-gives 2 (shortArea (length a) m || shortArea (length b) m) _ tt (range .1) in
+    let short = or-false (shortArea (length a) m) (shortArea (length b) m) (sizes .0) in
+    let values = refuseAt-gives 7 (badValue m a) [] allowed tt (sizes .1) in
+    record {
+      range = not-false (inM m) (range .0);
+      first = ltb-false (length a) (carriers m) (short .0);
+      second = ltb-false (length b) (carriers m) (short .1);
+      values = λ i l. not-false (accepted (entry a i)) (firstBelow-nowhere (carriers m) _ (values .0) i l);
+    }
