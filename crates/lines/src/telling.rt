@@ -9,7 +9,6 @@ use decoder::Matched;
 use encoder::Written;
 use kinds::MessageNumber;
 use pair::Paired;
-use pair::Which;
 use reader::Reading;
 use show::number;
 use show::refusal;
@@ -32,19 +31,7 @@ pub(super) fn tell_paired(answer: Paired) {
     match answer {
         Paired::Yes => say(b"yes"),
         Paired::No => say(b"no"),
-        Paired::Refused(kind, which) => {
-            refusal(kind);
-            tell_which(which);
-        }
-    }
-}
-
-// The word that a refusal speaks of.
-fn tell_which(which: Which) {
-    match which {
-        Which::Either => (),
-        Which::First => say(b" of word 1"),
-        Which::Second => say(b" of word 2"),
+        Paired::Refused(kind) => refusal(kind),
     }
 }
 
