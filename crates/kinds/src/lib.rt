@@ -14,7 +14,7 @@ pub struct PathNumber(pub u32);
 pub struct MessageNumber(pub u64);
 
 // Which of the two words that the pair check is given, counted from 1.
-pub struct Which(pub usize);
+pub struct Which(pub u32);
 
 // Why a call refuses. Kinds 3 and 7 carry the first bad place, and 3 of the pair check the word that it stands in.
 pub enum Refusal {
@@ -45,7 +45,7 @@ pub enum Judged {
 pub struct Carried {
     pub count: usize,
     pub first: usize,
-    pub second: usize,
+    pub second: u32,
 }
 
 // The number of a refusal in 01's table.
@@ -81,7 +81,7 @@ pub fn carries(why: Refusal) -> Carried
 }
 
 // So many numbers: the first, the second, 0 for each that there is not.
-fn some(count: usize, first: usize, second: usize) -> Carried
+fn some(count: usize, first: usize, second: u32) -> Carried
     ensures { λ r. ⌜ (r .count ≡ count) × (r .first ≡ first) × (r .second ≡ second) ⌝ }
 {
     Carried {
