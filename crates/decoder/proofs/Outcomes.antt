@@ -18,7 +18,7 @@ use Rattle.rules.specs.Table.{badSymbol}
 use Rattle.rules.specs.Refusal.{softRefusal, hardRefusal}
 use Rattle.rules.proofs.OutcomeLaws.{gives-not-refuses, gives-inj}
 use Rattle.rules.proofs.DecodingLaws.{softOutcome-unique, hardOutcome-unique}
-use Rattle.kinds.proofs.ToldLaws.{refusalTold-inj}
+use Rattle.kinds.proofs.RefusalLaws.{refusalTold-inj}
 use Rattle.decoder.specs.declared.Loudest.{Loudest}
 use Rattle.decoder.specs.declared.Closest.{Closest}
 use Rattle.decoder.specs.declared.Heard.{Heard}

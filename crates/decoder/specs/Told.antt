@@ -9,7 +9,7 @@ use mathlib.Core.List.{List}
 use lib.IntN.{ℤ}
 use Rattle.rules.specs.Outcome.{Outcome, gives}
 use Rattle.rules.specs.Decoding.{SoftAnswer, HardAnswer, SoftOutcome, HardOutcome}
-use Rattle.kinds.specs.Told.{refusalTold}
+use Rattle.kinds.specs.Refusals.{refusalTold}
 use Rattle.decoder.specs.declared.Loudest.{Loudest}
 use Rattle.decoder.specs.declared.Closest.{Closest}
 use Rattle.decoder.specs.declared.Heard.{Heard}

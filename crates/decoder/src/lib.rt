@@ -2,9 +2,9 @@
 // Each call turns what it received into a table of gains, natural numbers that are greater where a symbol fits better
 // (totals, specs/Gains.antt), and has the engine find the label of greatest total. Nothing is negated, and a soft value
 // is widened before anything is added to it. Equals go to the earliest label. Contracts cite specs/Told.antt.
+use kinds::Judged;
 use kinds::MessageNumber;
 use kinds::Refusal;
-use kinds::Search;
 use shape::PLACES;
 use standing::Standing;
 ghost use Prim.Native.Nat.{ℕ, _+_, _-_, _*_, _^_, _≤_, _<_};
@@ -61,14 +61,8 @@ pub enum Matched {
 pub fn soft(h: u32, m: u32, values: &[i16]) -> Heard
     ensures { λ r. ⌜ Hears h m (now (values .entry)) r ⌝ }
 {
-    if !shape::in_shape(h, m) {
-        return Heard::Refused(Refusal::Shape);
-    }
-    if h == 3 {
-        return Heard::Refused(Refusal::Octary);
-    }
-    if values.len() != shape::power(h - 1 + m) as usize {
-        return Heard::Refused(Refusal::Length);
+    if let Judged::Refused(why) = refusals::soft(h, m, values) {
+        return Heard::Refused(why);
     }
     let mut gains = [0u32; GAINS];
     let n = shape::power(h + m) as usize;
@@ -81,17 +75,8 @@ pub fn soft(h: u32, m: u32, values: &[i16]) -> Heard
 pub fn hard(h: u32, m: u32, word: &[u8]) -> Matched
     ensures { λ r. ⌜ Matches h m (now (word .entry)) r ⌝ }
 {
-    if !shape::in_shape(h, m) {
-        return Matched::Refused(Refusal::Shape);
-    }
-    if h == 3 {
-        return Matched::Refused(Refusal::Octary);
-    }
-    if word.len() != shape::power(m) as usize {
-        return Matched::Refused(Refusal::Length);
-    }
-    if let Search::At(place) = shape::first_bad(shape::power(h), word) {
-        return Matched::Refused(Refusal::Symbol(place));
+    if let Judged::Refused(why) = refusals::hard(h, m, word) {
+        return Matched::Refused(why);
     }
     let mut gains = [0u32; GAINS];
     let n = shape::power(h + m) as usize;

@@ -3,9 +3,9 @@
 use mathlib.Core.Path.{_≡_, _∙_, ap}
 use denote.Ref.{now}
 use borrow.Author.Needs.{needs}
+use Rattle.rules.proofs.RefusalLaws.{HardTaken, hard-taken}
 use Rattle.totals.specs.Gains.{hardGain, tableOf}
 use Rattle.engine.specs.Search.{searched}
-use Rattle.decoder.proofs.Taken.{HardTaken, hard-taken}
 use Rattle.decoder.proofs.Found.{hard-best-le, hard-found}
 use Rattle.decoder.proofs.weigh.Statement.{statement}
 use Rattle.decoder.proofs.weigh.Tie as tie
