@@ -18,7 +18,7 @@ use Rattle.rules.specs.Outcome.{Outcome, gives}
 use Rattle.rules.proofs.OutcomeLaws.{gives-not-refuses}
 use Rattle.kinds.specs.declared.Refusal.{Refusal}
 use Rattle.kinds.specs.declared.Refusal.the-variants.{Shape, Length, Symbol, Message, NoWord, Octary, Value}
-use Rattle.kinds.specs.Told.{refusalSays}
+use Rattle.kinds.specs.Refusals.{refusalSays}
 use Rattle.sharqudel.specs.Crossing.{kindOf, carriedOr}
 use Rattle.sharqudel.proofs.Carried.{placed, Carries, Listed, given, refused}
 

@@ -13,11 +13,11 @@ use Rattle.rules.specs.Outcome.{Outcome, gives, allowed, leaves}
 use Rattle.rules.specs.Refusal.{softRefusal, hardRefusal, transformRefusal}
 use Rattle.rules.specs.Decoding.{SoftAnswer, HardAnswer, Loud, Near}
 use Rattle.kinds.specs.declared.Refusal.{Refusal}
-use Rattle.kinds.specs.Told.{refusalSays, refusalTold, telling}
+use Rattle.kinds.specs.Refusals.{refusalSays, refusalTold, telling}
 use Rattle.encoder.specs.declared.Written.{Written}
 use Rattle.encoder.specs.Sent.{writtenTold, Sent}
 use Rattle.pair.specs.declared.Which.{Which}
-use Rattle.pair.specs.Told.{wordTold}
+use Rattle.pair.specs.Paired.{wordTold}
 use Rattle.transform.specs.Told.{Ran}
 use Rattle.transform.proofs.Parts.{ran-refused}
 use Rattle.sharqudel.specs.Crossing.{kindOf, Tells, areaOf}

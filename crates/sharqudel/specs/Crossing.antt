@@ -15,7 +15,7 @@ use lib.ListN.{getD}
 use Rattle.rules.specs.Outcome.{Outcome, gives, refuses}
 use Rattle.rules.specs.Areas.{inFirst}
 use Rattle.kinds.specs.declared.Refusal.{Refusal}
-use Rattle.kinds.specs.Told.{refusalSays}
+use Rattle.kinds.specs.Refusals.{refusalSays}
 
 abbrev pub kindOf : {A : Type 0} → Outcome A → ℕ
 kindOf (gives a) = 0

@@ -18,9 +18,9 @@ ghost use mathlib.Core.Path.{_≡_};
 ghost use lib.ListN.{length, getD};
 ghost use Rattle.rules.specs.Word.{wordOf, partnerOf};
 ghost use Rattle.rules.specs.Refusal.{pairOutcome, readOutcome, transformRefusal};
-ghost use Rattle.kinds.specs.Told.{refusalSays};
+ghost use Rattle.kinds.specs.Refusals.{refusalSays};
 ghost use Rattle.encoder.specs.Sent.{writtenTold};
-ghost use Rattle.pair.specs.Told.{wordTold};
+ghost use Rattle.pair.specs.Paired.{wordTold};
 ghost use Rattle.sharqudel.specs.Crossing.{kindOf, Tells};
 ghost use Rattle.sharqudel.specs.Out.{SentOut, CheckedOut, ReadOut, SoftOut, HardOut, JudgedOut, TransformedOut};
 

@@ -32,7 +32,7 @@ use Rattle.rules.proofs.Messages.{labelOf-lt}
 use Rattle.words.proofs.Forms.{wordOf-at, wordOf-lt}
 use Rattle.distances.proofs.Apart.{distance-apart}
 use Rattle.reader.specs.declared.Reading.{Reading}
-use Rattle.reader.specs.Told.{readingTold}
+use Rattle.reader.specs.Reading.{readingTold}
 use Rattle.decoder.specs.declared.Heard.{Heard}
 use Rattle.decoder.specs.declared.Matched.{Matched}
 use Rattle.decoder.specs.Told.{heardTold, matchedTold, Hears, Matches}

@@ -29,11 +29,12 @@ use Rattle.rules.specs.Decoding.{SoftAnswer, HardAnswer}
 use Rattle.encoder.specs.declared.Written.{Written}
 use Rattle.encoder.specs.Sent.{writtenTold, Sent}
 use Rattle.pair.specs.declared.Paired.{Paired}
-use Rattle.pair.specs.Told.{pairedTold}
+use Rattle.pair.specs.Paired.{pairedTold}
 use Rattle.reader.specs.declared.Reading.{Reading}
-use Rattle.reader.specs.Told.{readingTold}
-use Rattle.transform.specs.declared.Judged.{Judged}
-use Rattle.transform.specs.Told.{judgedTold, Ran, Handed, AtLast, AtLastOf}
+use Rattle.reader.specs.Reading.{readingTold}
+use Rattle.kinds.specs.declared.Judged.{Judged}
+use Rattle.kinds.specs.Refusals.{judgedTold}
+use Rattle.transform.specs.Told.{Ran, Handed, AtLast, AtLastOf}
 use Rattle.decoder.specs.declared.Loudest.{Loudest}
 use Rattle.decoder.specs.declared.Closest.{Closest}
 use Rattle.decoder.specs.declared.Heard.{Heard}

@@ -28,9 +28,9 @@ use Rattle.encoder.specs.declared.Written.the-variants.{Done}
 use Rattle.encoder.specs.Sent.{Sent}
 use Rattle.pair.specs.declared.Paired.{Paired}
 use Rattle.pair.specs.declared.Paired.the-variants.{Yes, No}
-use Rattle.pair.specs.Told.{pairedTold}
+use Rattle.pair.specs.Paired.{pairedTold}
 use Rattle.reader.specs.declared.Reading.{Reading}
-use Rattle.reader.specs.Told.{readingTold}
+use Rattle.reader.specs.Reading.{readingTold}
 use Rattle.decoder.specs.declared.Loudest.{Loudest}
 use Rattle.decoder.specs.declared.Closest.{Closest}
 use Rattle.decoder.specs.declared.Heard.the-variants.{Found as Heard·Found}

@@ -20,7 +20,7 @@ use Rattle.rules.specs.Soft.{correlation, clean}
 use Rattle.rules.specs.Outcome.{gives}
 use Rattle.rules.specs.Refusal.{readOutcome}
 use Rattle.reader.specs.declared.Reading.{Reading}
-use Rattle.reader.specs.Told.{readingTold}
+use Rattle.reader.specs.Reading.{readingTold}
 use Rattle.decoder.specs.declared.Heard.{Heard}
 use Rattle.decoder.specs.declared.Matched.{Matched}
 use Rattle.decoder.specs.Told.{heardTold, matchedTold, Hears, Matches}

@@ -13,9 +13,9 @@ use Rattle.rules.specs.Outcome.{gives, allowed, leaves}
 use Rattle.rules.specs.Refusal.{sendRefusal, pairOutcome, readOutcome}
 use Rattle.pair.specs.declared.Paired.{Paired}
 use Rattle.pair.specs.declared.Paired.the-variants.{Yes}
-use Rattle.pair.specs.Told.{pairedTold}
+use Rattle.pair.specs.Paired.{pairedTold}
 use Rattle.reader.specs.declared.Reading.{Reading}
-use Rattle.reader.specs.Told.{readingTold}
+use Rattle.reader.specs.Reading.{readingTold}
 use Rattle.decoder.specs.declared.Matched.{Matched}
 use Rattle.decoder.specs.Told.{matchedTold, Matches}
 
