@@ -141,7 +141,7 @@ weigh-requires c κs =
     )
 
 returns-5 : tie.Need-returns-5
-returns-5 c = search needs
+returns-5 c = record { taken = taken (c .before .before .before .before); right = c .before .weigh .ensures }
 
 pub hard-spec : {M : Type 1} → statement M
 hard-spec =

@@ -110,7 +110,7 @@ hear-requires c κs =
     )
 
 returns-4 : tie.Need-returns-4
-returns-4 c = search needs
+returns-4 c = record { taken = taken (c .before .before .before .before); right = c .before .hear .ensures }
 
 pub soft-spec : {M : Type 1} → statement M
 soft-spec =
