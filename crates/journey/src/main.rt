@@ -2,10 +2,10 @@
 // word with two symbols changed, which is refused in reading and found by hard decoding; then soft values of the word
 // with noise, and soft decoding. Document 01: "What a logger may send", "The partner and the pair check", "What the
 // receiver hears". The word is the last starred one of 01's "Known words" for h = 2 and m = 4.
-use decoder::Closest;
-use decoder::Heard;
-use decoder::Loudest;
-use decoder::Matched;
+use answers::Closest;
+use answers::Heard;
+use answers::Loudest;
+use answers::Matched;
 use encoder::Written;
 use kinds::MessageNumber;
 use kinds::Refusal;

@@ -4,8 +4,8 @@
 //   read                message G | refused K | refused 3 at place P
 //   hard                message G distance D tied | message G distance D not tied | refused K | refused 3 at place P
 //   soft                message G correlation C tied | message G correlation C not tied | refused K
-use decoder::Heard;
-use decoder::Matched;
+use answers::Heard;
+use answers::Matched;
 use encoder::Written;
 use kinds::MessageNumber;
 use pair::Paired;

@@ -1,14 +1,13 @@
 -- Laws of outcomes: rules' Outcome. In order: what is given is not refused, and is one thing; where something is
 -- given, no test of the table held, and no place was found; a claim about an outcome, test by test; a test after
--- others, and two tests of one number; a relation that fixes what is refused and what is given is
--- satisfied by one outcome.  Assumes nothing.
+-- others, and two tests of one number; only one outcome is answered.  Assumes nothing.
 use Prim.Native.Nat.{ℕ}
 use native.Mathlib.Omega.{arith}
 use mathlib.Core.Path.{_≡_, refl, sym, _∙_, ap}
 use mathlib.Core.Bool.{Bool, true, false, _||_}
 use mathlib.Core.List.{List, [], _∷_}
 use mathlib.Core.Option.{Option, none, some}
-use Rattle.rules.specs.Outcome.{Outcome, gives, refuses, allowed, andThen, refuse, refuseAt}
+use Rattle.rules.specs.Outcome.{Outcome, gives, refuses, allowed, andThen, refuse, refuseAt, OutcomeOf}
 
 module _ {A : Type 0} where
   pub gives-not-refuses : {a : A} {k : ℕ} {v : List ℕ} → gives a ≡ refuses k v → ⊥
@@ -64,12 +63,11 @@ module _ {A : Type 0} where
   andThen-gives (gives tt) o a e = (refl, e)
   andThen-gives (refuses k v) o a e = absurd (gives-not-refuses (sym e))
 
--- a relation that says an outcome's refusal is r's, and of what is given that r refuses nothing and that it is alone
-module _ {A : Type 0} (S : Outcome A → Type 0) (r : Outcome (Unit {0}))
-    (alone : (a b : A) → S (gives a) → S (gives b) → a ≡ b) (taken : (a : A) → S (gives a) → r ≡ allowed)
-    (told : (k : ℕ) (v : List ℕ) → S (refuses k v) → r ≡ refuses k v) where
-  pub outcome-unique : (o u : Outcome A) → S o → S u → o ≡ u
-  outcome-unique (gives a) (gives b) p q = let e = alone a b p q in cc
-  outcome-unique (gives a) (refuses k v) p q = absurd (gives-not-refuses (sym (taken a p) ∙ told k v q))
-  outcome-unique (refuses k v) (gives a) p q = absurd (gives-not-refuses (sym (taken a q) ∙ told k v p))
-  outcome-unique (refuses k v) (refuses j w) p q = let e = sym (told k v p) ∙ told j w q in cc
+-- only one outcome is answered, where only one answer is right
+module _ {A : Type 0} (r : Outcome (Unit {0})) (Right : A → Type 0) where
+  pub outcomeOf-unique : ((a b : A) → Right a → Right b → a ≡ b) → (o u : Outcome A) → OutcomeOf r Right o →
+      OutcomeOf r Right u → o ≡ u
+  outcomeOf-unique alone (gives a) (gives b) p q = let e = alone a b (p .right) (q .right) in cc
+  outcomeOf-unique alone (gives a) (refuses k v) p q = absurd (gives-not-refuses (sym (p .taken) ∙ q))
+  outcomeOf-unique alone (refuses k v) (gives a) p q = absurd (gives-not-refuses (sym (q .taken) ∙ p))
+  outcomeOf-unique alone (refuses k v) (refuses j w) p q = let e = sym p ∙ q in cc

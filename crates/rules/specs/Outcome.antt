@@ -6,8 +6,13 @@
 --           andThen r o             o where r refuses nothing, else r's refusal
 --           refuse k test o         refusal k where the test holds, else o
 --           refuseAt k found more o refusal k with the place found, and more behind it, else o
--- Laws: proofs/OutcomeLaws.antt.  Assumes nothing: these are definitions.
+--           Answered r Right a      a is answered: r refuses nothing, and a is right
+--           OutcomeOf r Right o     o is the outcome of a call that refuses what r refuses, and else answers what is
+--                                   right: each call that answers by a relation says which r and which Right
+-- Laws: proofs/OutcomeLaws.antt (only one outcome is answered, where only one answer is right).
+-- Assumes nothing: these are definitions.
 use Prim.Native.Nat.{ℕ}
+use mathlib.Core.Path.{_≡_}
 use mathlib.Core.Bool.{Bool, true, false}
 use mathlib.Core.List.{List, [], _∷_}
 use mathlib.Core.Option.{Option, none, some}
@@ -35,3 +40,11 @@ module _ {A : Type 0} where
   abbrev pub refuseAt : ℕ → Option ℕ → List ℕ → Outcome A → Outcome A
   refuseAt k (some i) more o = refuses k (i ∷ more)
   refuseAt k none more o = o
+
+pub record Answered {A : Type 0} (r : Outcome (Unit {0})) (Right : A → Type 0) (a : A) : Type 0 where
+  pub taken : r ≡ allowed
+  pub right : Right a
+
+abbrev pub OutcomeOf : {A : Type 0} → Outcome (Unit {0}) → (A → Type 0) → Outcome A → Type 0
+OutcomeOf r Right (gives a) = Answered r Right a
+OutcomeOf r Right (refuses k carried) = r ≡ refuses k carried

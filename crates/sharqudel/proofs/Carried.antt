@@ -16,12 +16,12 @@ use lib.IntN.{ℤ}
 use lib.ListN.{length}
 use Rattle.rules.specs.Shape.{carriers}
 use Rattle.rules.specs.Soft.{softLength}
-use Rattle.rules.specs.Outcome.{Outcome, gives, refuses, refuse, refuseAt}
+use Rattle.rules.specs.Outcome.{Outcome, gives, refuses, refuse, refuseAt, OutcomeOf}
 use Rattle.rules.specs.Table.{badShape, badM, badLength, shortArea, badSymbol, badMessage, messageWith, octary}
 use Rattle.rules.specs.Table.{badValue}
 use Rattle.rules.specs.Refusal.{sendRefusal, pairOutcome, refuseWord, orNoWord, readOutcome, softRefusal, hardRefusal}
 use Rattle.rules.specs.Refusal.{transformRefusal}
-use Rattle.rules.specs.Decoding.{SoftAnswer, HardAnswer, SoftOutcome, HardOutcome}
+use Rattle.rules.specs.Decoding.{SoftAnswer, HardAnswer, Loud, Near, SoftOutcome, HardOutcome}
 
 abbrev pub placed : ℕ → Bool
 placed k = eqb k 3 || eqb k 7
@@ -93,13 +93,17 @@ hardRefusal-listed h m w =
     refuse-listed 1 (badShape h m) (carries tt refl)
     (refuse-listed 6 (octary h) (carries tt refl) (refuseWord-listed h m w given))
 
+-- an outcome refuses what its refusals refuse
+module _ {A : Type 0} {n : ℕ} {r : Outcome (Unit {0})} (l : Listed n r) (Right : A → Type 0) where
+  outcomeOf-listed : (o : Outcome A) → OutcomeOf r Right o → Listed n o
+  outcomeOf-listed (gives a) p = given
+  outcomeOf-listed (refuses k v) p = refused (listed-carries (subst (Listed n) p l))
+
 pub softOutcome-listed : (h m : ℕ) (ys : List ℤ) (o : Outcome SoftAnswer) → SoftOutcome h m ys o → Listed 1 o
-softOutcome-listed h m ys (gives a) p = given
-softOutcome-listed h m ys (refuses k v) p = refused (listed-carries (subst (Listed 1) p (softRefusal-listed h m ys)))
+softOutcome-listed h m ys = outcomeOf-listed (softRefusal-listed h m ys) (Loud h m ys)
 
 pub hardOutcome-listed : (h m : ℕ) (w : List ℕ) (o : Outcome HardAnswer) → HardOutcome h m w o → Listed 1 o
-hardOutcome-listed h m w (gives a) p = given
-hardOutcome-listed h m w (refuses k v) p = refused (listed-carries (subst (Listed 1) p (hardRefusal-listed h m w)))
+hardOutcome-listed h m w = outcomeOf-listed (hardRefusal-listed h m w) (Near h m w)
 
 pub transformRefusal-listed : (m : ℕ) (a : List ℤ) (c : ℕ) → Listed 1 (transformRefusal m a c)
 unfolding transformRefusal

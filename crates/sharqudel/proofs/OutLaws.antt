@@ -11,7 +11,7 @@ use lib.IntN.{ℤ}
 use lib.ListN.{length, getD}
 use Rattle.rules.specs.Outcome.{Outcome, gives, allowed, leaves}
 use Rattle.rules.specs.Refusal.{softRefusal, hardRefusal, transformRefusal}
-use Rattle.rules.specs.Decoding.{SoftAnswer, HardAnswer, Loud, Near}
+use Rattle.rules.specs.Decoding.{SoftAnswer, HardAnswer, SoftOutcome, HardOutcome}
 use Rattle.kinds.specs.declared.Refusal.{Refusal}
 use Rattle.kinds.specs.Refusals.{refusalSays, refusalTold, telling}
 use Rattle.encoder.specs.declared.Written.{Written}
@@ -55,8 +55,8 @@ module _ {o : Outcome ℕ} {g₀ p₀ : ℕ} where
       (record { number = t .number; message = refl; place = t .place })
 
 module _ {h m : ℕ} {ys : List ℤ} {g₀ : ℕ} {v₀ : ℤ} {t₀ : Bool} where
-  pub softOut-given : {a : SoftAnswer} → Loud h m ys a →
-      SoftOut h m ys 0 g₀ (a .message) v₀ (a .correlation) t₀ (a .tied)
+  pub softOut-given : {a : SoftAnswer} → SoftOutcome h m ys (gives a) →
+      SoftOut h m ys 0 g₀ (a .message) v₀ (a .value) t₀ (a .tied)
   softOut-given {a} p = record {
     outcome = gives a;
     heard = p;
@@ -78,8 +78,8 @@ module _ {h m : ℕ} {ys : List ℤ} {g₀ : ℕ} {v₀ : ℤ} {t₀ : Bool} whe
   }
 
 module _ {h m : ℕ} {w : List ℕ} {g₀ d₀ : ℕ} {t₀ : Bool} {p₀ : ℕ} where
-  pub hardOut-given : {a : HardAnswer} → Near h m w a →
-      HardOut h m w 0 g₀ (a .message) d₀ (a .distance) t₀ (a .tied) p₀ p₀
+  pub hardOut-given : {a : HardAnswer} → HardOutcome h m w (gives a) →
+      HardOut h m w 0 g₀ (a .message) d₀ (a .value) t₀ (a .tied) p₀ p₀
   hardOut-given {a} p = record {
     outcome = gives a;
     matched = p;

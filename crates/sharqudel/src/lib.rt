@@ -5,8 +5,8 @@
 // which word. A cell that an answer has nothing for stays as it was.
 // Each call hands on to one of the crates below and takes its answer apart. Contracts cite specs/Out.antt and
 // Crossing.antt.
-use decoder::Heard;
-use decoder::Matched;
+use answers::Heard;
+use answers::Matched;
 use encoder::Written;
 use kinds::MessageNumber;
 use kinds::Refusal;

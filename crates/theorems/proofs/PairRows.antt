@@ -15,11 +15,11 @@ use Rattle.rules.specs.Word.{symbolAt}
 use Rattle.rules.specs.Symbols.{Symbols}
 use Rattle.rules.specs.Pair.{golayPair}
 use Rattle.rules.specs.Autocorrelation.{Cancel}
-use Rattle.rules.specs.Outcome.{Outcome, gives}
+use Rattle.rules.specs.Outcome.{Outcome, gives, andThen}
 use Rattle.rules.specs.Table.{badShape, badLength, badSymbol}
 use Rattle.rules.specs.Refusal.{pairRefusal, pairOutcome}
 use Rattle.rules.proofs.Range.{inShape-range}
-use Rattle.rules.proofs.OutcomeLaws.{refuse-cases, refuseAt-cases, andThen-refuse, andThen-refuseAt}
+use Rattle.rules.proofs.OutcomeLaws.{refuse-cases, refuseAt-cases}
 use Rattle.rules.proofs.SymbolLaws.{symbols-of-none, symbols-none}
 use Rattle.golay.proofs.Autocorrelations.{golayPair-iff-cancel}
 use Rattle.pair.proofs.Pairs.{golayPair-iff}
@@ -67,8 +67,8 @@ module _ (h m : ℕ) (a b : List ℕ) where
   Row = PairRow h m a b
 
   -- two words in range
-  counted : Symbols h m a → Symbols h m b → Row (pairOutcome h m a b)
-  counted p q = subst Row (pair-given h m a b p q) (at (golayPair h m (symbolAt a) (symbolAt b)) refl)
+  counted : Symbols h m a → Symbols h m b → Row (gives (golayPair h m (symbolAt a) (symbolAt b)))
+  counted p q = at (golayPair h m (symbolAt a) (symbolAt b)) refl
     where
       at : (t : Bool) → golayPair h m (symbolAt a) (symbolAt b) ≡ t → Row (gives t)
       at true e = pair-yes p q (tested-iff (p .shape) .0 e)
@@ -77,22 +77,16 @@ module _ (h m : ℕ) (a b : List ℕ) where
   pub pair-row : Row (pairOutcome h m a b)
   unfolding pairOutcome pairRefusal
   pair-row =
-      let next = gives (golayPair h m (symbolAt a) (symbolAt b)) in
-      rw (
-        andThen-refuse 1 (badShape h m) _ next,
-        andThen-refuse 2 short _ next,
-        andThen-refuseAt 3 (badSymbol h a) (1 ∷ []) _ next,
-        andThen-refuseAt 3 (badSymbol h b) (2 ∷ []) _ next,
-      )
-      (refuse-cases Row 1 (badShape h m) _ (λ s. pair-1 (not-true _ s)) (λ s.
-      refuse-cases Row 2 short _ (λ l. pair-2 (not-false _ s) (not-both l)) (λ l.
+      let P : Outcome (Unit {0}) → Type 0 = λ r. Row (andThen r (gives (golayPair h m (symbolAt a) (symbolAt b)))) in
+      refuse-cases P 1 (badShape h m) _ (λ s. pair-1 (not-true _ s)) (λ s.
+      refuse-cases P 2 short _ (λ l. pair-2 (not-false _ s) (not-both l)) (λ l.
       let p = both l .0 in
       let q = both l .1 in
-      refuseAt-cases Row 3 (badSymbol h a) (1 ∷ []) _
+      refuseAt-cases P 3 (badSymbol h a) (1 ∷ []) _
       (λ i e. pair-3-first i (not-false _ s) p q (firstTooGreat-of h a i e)) (λ e.
       let first = symbols-of-none h m a (not-false _ s) p (sym e) in
-      refuseAt-cases Row 3 (badSymbol h b) (2 ∷ []) _ (λ i f. pair-3-second i first q (firstTooGreat-of h b i f)) (λ f.
-      counted first (symbols-of-none h m b (not-false _ s) q (sym f)))))))
+      refuseAt-cases P 3 (badSymbol h b) (2 ∷ []) _ (λ i f. pair-3-second i first q (firstTooGreat-of h b i f))
+      (λ f. counted first (symbols-of-none h m b (not-false _ s) q (sym f))))))
 
   pub pair-only : {o : Outcome Bool} → Row o → o ≡ pairOutcome h m a b
   unfolding pairOutcome pairRefusal

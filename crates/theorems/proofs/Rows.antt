@@ -15,10 +15,10 @@ use Rattle.range.proofs.Tests.{firstBelow-at, firstBelow-some}
 use Rattle.rules.specs.Shape.{inShape, phases, carriers, messages}
 use Rattle.rules.specs.Word.{wordOf, symbolAt}
 use Rattle.rules.specs.Symbols.{Symbols}
-use Rattle.rules.specs.Outcome.{Outcome, gives, refuses}
+use Rattle.rules.specs.Outcome.{Outcome, gives, refuses, andThen}
 use Rattle.rules.specs.Table.{badShape, badLength, badSymbol, badMessage, messageWith}
 use Rattle.rules.specs.Refusal.{sendRefusal, wordRefusal, readOutcome, orNoWord}
-use Rattle.rules.proofs.OutcomeLaws.{refuse-cases, refuseAt-cases, andThen-refuse, andThen-refuseAt}
+use Rattle.rules.proofs.OutcomeLaws.{refuse-cases, refuseAt-cases}
 use Rattle.rules.proofs.RefusalLaws.{send-allowed, word-allowed}
 use Rattle.rules.proofs.SymbolLaws.{symbols-of-none}
 use Rattle.reader.proofs.ShownLaws.{messageWith-some, messageWith-iff, messageWith-none-iff}
@@ -71,16 +71,15 @@ module _ (h m : ℕ) (w : List ℕ) where
   pub read-row : ReadRow h m w (readOutcome h m w)
   unfolding readOutcome wordRefusal
   read-row =
-      let Row = ReadRow h m w in
-      let long = badLength (length w) (carriers m) in
-      let next = orNoWord (messageWith h m w) in
-      rw (andThen-refuse 1 (badShape h m) _ next, andThen-refuse 2 long _ next, andThen-refuseAt 3 (badSymbol h w) [] _ next)
-      (refuse-cases Row 1 (badShape h m) _ (λ s. read-1 (not-true _ s)) (λ s.
-      refuse-cases Row 2 long _ (λ l. read-2 (not-false _ s) (eqb-false (length w) _ (not-true _ l))) (λ l.
-      refuseAt-cases Row 3 (badSymbol h w) [] _
-      (λ i e. read-3 i (not-false _ s) (eqb-true (length w) _ (not-false _ l)) (firstTooGreat-of h w i e))
-      (λ e. found
-      (symbols-of-none h m w (not-false _ s) (eqb-true (length w) _ (not-false _ l)) (sym e)) (messageWith h m w) refl))))
+      let P : Outcome (Unit {0}) → Type 0 = λ r. ReadRow h m w (andThen r (orNoWord (messageWith h m w))) in
+      let long = eqb-true (length w) (carriers m) in
+      refuse-cases P 1 (badShape h m) _ (λ s. read-1 (not-true _ s)) (λ s.
+      refuse-cases P 2 (badLength (length w) (carriers m)) _
+      (λ l. read-2 (not-false _ s) (eqb-false (length w) (carriers m) (not-true _ l))) (λ l.
+      refuseAt-cases P 3 (badSymbol h w) [] _
+      (λ i e. read-3 i (not-false _ s) (long (not-false _ l)) (firstTooGreat-of h w i e))
+      (λ e.
+      found (symbols-of-none h m w (not-false _ s) (long (not-false _ l)) (sym e)) (messageWith h m w) refl)))
     where
       found : (s : Symbols h m w) (f : Option ℕ) → messageWith h m w ≡ f → ReadRow h m w (orNoWord f)
       found s none e = read-5 s (messageWith-none-iff h m w s .0 e)

@@ -15,9 +15,9 @@ use Rattle.pair.proofs.Unique.{paired-unique}
 use Rattle.reader.specs.declared.Reading.{Reading}
 use Rattle.reader.specs.Reading.{readingTold}
 use Rattle.reader.proofs.Unique.{reading-unique}
-use Rattle.decoder.specs.declared.Matched.{Matched}
-use Rattle.decoder.specs.Told.{Matches}
-use Rattle.decoder.proofs.Outcomes.{matches-unique}
+use Rattle.answers.specs.declared.Matched.{Matched}
+use Rattle.answers.specs.Decoded.{Matches}
+use Rattle.answers.proofs.Unique.{matches-unique}
 use Rattle.theorems.proofs.Proved.{theorems}
 use Rattle.trips.specs.Trips.{ReadBack, HardBack, CheckBack}
 

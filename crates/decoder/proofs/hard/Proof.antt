@@ -62,4 +62,5 @@ pub hard-spec : {M : Type 1} → statement M
 hard-spec =
     tie.close
     (tie.spec (λ c κs. search needs) (λ c. search needs) returns (λ c. search needs) add-power (λ c κs. search needs) fits
-    (λ c. sym (length-take-le _ _ (fits (c .before)))) weigh-requires (λ c. search needs))
+    (λ c. sym (length-take-le _ _ (fits (c .before)))) weigh-requires
+    (λ c. record { taken = free (c .before .before .before .before); right = c .before .weigh .ensures }))

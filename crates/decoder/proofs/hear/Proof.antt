@@ -57,7 +57,7 @@ returns c =
     let s = start (raised found) in
     let e = c .as-correlation .ensures in
     soft-found _ _ (taken s .shape) (taken s .few) (found .search .result) (now (s .args .values))
-    (raised found .raise .ensures .1) (searched-gains found) _ _ _ (s .pre .0) (e .0) (e .1) (e .2)
+    (raised found .raise .ensures .1) (searched-gains found) _ _ _ (e .0) (e .1) (e .2)
 
 pub hear-spec : {M : Type 1} → statement M
 hear-spec =

@@ -62,4 +62,5 @@ pub soft-spec : {M : Type 1} → statement M
 soft-spec =
     tie.close
     (tie.spec (λ c κs. search needs) (λ c. search needs) returns (λ c. search needs) add-power (λ c κs. search needs) fits
-    (λ c. sym (length-take-le _ _ (fits (c .before)))) hear-requires (λ c. search needs))
+    (λ c. sym (length-take-le _ _ (fits (c .before)))) hear-requires
+    (λ c. record { taken = free (c .before .before .before .before); right = c .before .hear .ensures }))

@@ -3,25 +3,25 @@
 --           heardTold r      an answer of soft decoding, as an outcome
 --           matchedTold r    an answer of hard decoding
 --           Hears h m ys r, Matches h m w r    the promises: rules' SoftOutcome and HardOutcome of what is told
--- Laws: proofs/Outcomes.antt (only one answer satisfies each).  Assumes nothing: these are definitions.
+-- Laws: proofs/Unique.antt (only one answer satisfies each).  Assumes nothing: these are definitions.
 use Prim.Native.Nat.{ℕ}
 use mathlib.Core.List.{List}
 use lib.IntN.{ℤ}
 use Rattle.rules.specs.Outcome.{Outcome, gives}
 use Rattle.rules.specs.Decoding.{SoftAnswer, HardAnswer, SoftOutcome, HardOutcome}
 use Rattle.kinds.specs.Refusals.{refusalTold}
-use Rattle.decoder.specs.declared.Loudest.{Loudest}
-use Rattle.decoder.specs.declared.Closest.{Closest}
-use Rattle.decoder.specs.declared.Heard.{Heard}
-use Rattle.decoder.specs.declared.Heard.the-variants.{Found as Heard·Found, Refused as Heard·Refused}
-use Rattle.decoder.specs.declared.Matched.{Matched}
-use Rattle.decoder.specs.declared.Matched.the-variants.{Found as Matched·Found, Refused as Matched·Refused}
+use Rattle.answers.specs.declared.Loudest.{Loudest}
+use Rattle.answers.specs.declared.Closest.{Closest}
+use Rattle.answers.specs.declared.Heard.{Heard}
+use Rattle.answers.specs.declared.Heard.the-variants.{Found as Heard·Found, Refused as Heard·Refused}
+use Rattle.answers.specs.declared.Matched.{Matched}
+use Rattle.answers.specs.declared.Matched.the-variants.{Found as Matched·Found, Refused as Matched·Refused}
 
 abbrev pub loudestTold : Loudest → SoftAnswer
-loudestTold a = record { message = a .message .0; correlation = a .correlation; tied = a .tied }
+loudestTold a = record { message = a .message .0; value = a .correlation; tied = a .tied }
 
 abbrev pub closestTold : Closest → HardAnswer
-closestTold a = record { message = a .message .0; distance = a .distance; tied = a .tied }
+closestTold a = record { message = a .message .0; value = a .distance; tied = a .tied }
 
 abbrev pub heardTold : Heard → Outcome SoftAnswer
 heardTold (Heard·Found a) = gives (loudestTold a)
