@@ -37,9 +37,9 @@ pub fn hard(h: u32, m: u32, symbols: &[u8]) -> Result<Found, No> {
     Ok(nearest(shape, symbols))
 }
 
-/// The label whose word these symbols are. A word shows its coefficients: where all digits are 0 stands c, and where x_k
-/// alone is 1 stands c_k + c, as every product of two digits is 0 there. What is left when their linear part is taken
-/// off is the quadratic part of a path in use, or this is no word.
+/// The label whose word these symbols are. A word shows its coefficients: c where all digits are 0, and c_k + c where
+/// x_k alone is 1, as every product of two digits is 0 there. What is left when their linear part is taken off is the
+/// quadratic part of a path in use, or these symbols are no word.
 pub fn label_with(shape: Shape, symbols: &[u8]) -> Option<Label> {
     let (m, phases) = (shape.m(), shape.phases() as u8);
     let less = |a: u8, b: u8| shape.modulo(a + phases - b);
