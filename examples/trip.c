@@ -1,5 +1,5 @@
 /*
- * A message goes out and comes back damaged. From the repository's root:
+ * A message is sent and comes back damaged. To build and run it from the repository's root folder:
  *   rt staticlib sharqudel
  *   gcc -std=c99 -Iinclude examples/trip.c target/staticlib/libsharqudel.a -o target/trip && target/trip
  */
@@ -18,7 +18,7 @@ static void show(const char *name, const uint8_t *word)
     printf("\n");
 }
 
-/* A refusal by its number, with its place where it has one. */
+/* Prints the number of a refusal, and its place if it has one. */
 static int refused(uint32_t kind, size_t place)
 {
     printf("refused %" PRIu32, kind);

@@ -1,6 +1,6 @@
-// Links the proved archive. `rt staticlib sharqudel` proves and writes it: minutes from nothing, some 20 s where the
-// crates below it are proved already. Who has an archive names it in SHARQUDEL_ARCHIVE: the whole path of a file
-// libsharqudel.a.
+// Links the proved archive. `rt staticlib sharqudel` proves the library and writes the archive: this takes minutes the
+// first time, and about 20 s if the crates that it depends on are already proved. To use an existing archive, set
+// SHARQUDEL_ARCHIVE to its full path; the file must be called libsharqudel.a.
 use std::path::{Path, PathBuf};
 use std::process::Command;
 
@@ -10,20 +10,24 @@ fn main() {
         Some(file) => named(PathBuf::from(file)),
         None => proved(Path::new("..")),
     };
-    let archive = archive.canonicalize().expect("the archive libsharqudel.a is there");
-    let folder = archive.parent().expect("a file stands in a folder");
+    let archive = archive.canonicalize().expect("there is no archive libsharqudel.a at that path");
+    let folder = archive.parent().expect("a file is in a folder");
     println!("cargo:rustc-link-search=native={}", folder.display());
     println!("cargo:rustc-link-lib=static=sharqudel");
 }
 
-// The archive that the variable names.
+// The archive that SHARQUDEL_ARCHIVE names.
 fn named(archive: PathBuf) -> PathBuf {
-    assert_eq!(archive.file_name(), Some("libsharqudel.a".as_ref()), "SHARQUDEL_ARCHIVE names a file libsharqudel.a");
+    assert_eq!(
+        archive.file_name(),
+        Some("libsharqudel.a".as_ref()),
+        "SHARQUDEL_ARCHIVE must name a file libsharqudel.a"
+    );
     println!("cargo:rerun-if-changed={}", archive.display());
     archive
 }
 
-// Has the archive of the repository proved and written, anew only where its sources changed.
+// Proves the repository's library and writes its archive, again only if the sources changed.
 fn proved(root: &Path) -> PathBuf {
     for source in ["crates", "crates.txt"] {
         println!("cargo:rerun-if-changed={}", root.join(source).display());
@@ -32,10 +36,7 @@ fn proved(root: &Path) -> PathBuf {
         .args(["staticlib", "sharqudel"])
         .current_dir(root)
         .output()
-        .expect("the Rattle kit's command rt is needed, or an archive named by SHARQUDEL_ARCHIVE");
-    assert!(
-        told.status.success(),
-        "rt staticlib sharqudel does not succeed: run it at the repository's root to see why"
-    );
+        .expect("install the Rattle kit (command rt), or set SHARQUDEL_ARCHIVE to an existing archive");
+    assert!(told.status.success(), "rt staticlib sharqudel failed: run it in the repository's root folder to see why");
     root.join("target/staticlib/libsharqudel.a")
 }

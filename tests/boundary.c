@@ -1,9 +1,9 @@
 /*
- * What the C boundary promises beside the answers: a call touches nothing outside the lengths that it is given, takes a
- * null pointer where the length is 0, and leaves each cell that it has nothing for as it was.
- * Slices stand against pages that may be neither read nor written, behind them and before them, so that one element
- * too far ends the program; while a call only reads, its slices stand in pages that may not be written. Prints how many
- * checks passed and failed.
+ * What the C boundary promises beside the answers: a call touches nothing outside the lengths that it is given, accepts
+ * a null pointer if the length is 0, and leaves each cell that it does not write as it was.
+ * Slices touch pages that may be neither read nor written, at their front or at their back, so that one element too far
+ * ends the program; while a call only reads, its slices are in pages that may not be written. Prints how many checks
+ * passed and failed.
  */
 #define _DEFAULT_SOURCE
 #include <stdio.h>

@@ -1,4 +1,4 @@
-//! A message goes out and comes back damaged: `cargo run -p sharqudel --example trip`.
+//! A message is sent and comes back damaged. To run it: `cargo run -p sharqudel --example trip`.
 
 use sharqudel::{check, encode, hard, partner, read, refusal, soft, transform, Message, Refusal};
 use std::error::Error;
@@ -7,7 +7,7 @@ fn shown(word: &[u8]) -> String {
     word.iter().map(|symbol| symbol.to_string()).collect()
 }
 
-/// A refusal by its number, with its place where it has one.
+/// Prints the number of a refusal, and its place if it has one.
 fn refused(why: Refusal) {
     match why {
         Refusal::Symbol { place } | Refusal::Value { place } => println!("refused {} at place {place}", why.number()),

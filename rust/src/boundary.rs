@@ -1,5 +1,5 @@
-//! The functions of the archive, as include/sharqudel.h declares them. Nothing checks these lines against the archive;
-//! the tests call each function through them.
+//! The functions of the archive, as include/sharqudel.h declares them. The compiler does not check these lines against
+//! the archive; tests/declarations checks them against the library's source.
 
 extern "C" {
     pub fn sharqudel_encode(h: u32, m: u32, message: u64, out: *mut u8, out_length: usize) -> u32;

@@ -7,19 +7,19 @@ use std::fmt;
 #[derive(Clone, Copy, Debug, PartialEq, Eq, Hash)]
 #[non_exhaustive]
 pub enum Refusal {
-    /// 1: h or m is outside its range.
+    /// 1: h or m is out of range.
     Shape,
-    /// 2: a word, output or soft slice has not exactly the length named, or an area is shorter than N.
+    /// 2: wrong length of a word, output or soft slice for this shape, or an area shorter than N.
     Length,
-    /// 3: a symbol is 2^h or more; the first such place.
+    /// 3: a symbol is 2^h or more; `place` is the first such place.
     Symbol { place: usize },
-    /// 4: the message number needs more than its bits.
+    /// 4: message number too large for this shape.
     Message,
-    /// 5: in word reading, no message has this word.
+    /// 5: only in word reading: no message has this word.
     NoWord,
     /// 6: soft or hard decoding with h = 3.
     Octary,
-    /// 7: an input of the transform is outside its range; the first such place.
+    /// 7: an input of the transform is out of range; `place` is the first such place.
     Value { place: usize },
 }
 
@@ -41,13 +41,13 @@ impl Refusal {
 impl fmt::Display for Refusal {
     fn fmt(&self, f: &mut fmt::Formatter<'_>) -> fmt::Result {
         match self {
-            Refusal::Shape => write!(f, "h or m is outside its range"),
-            Refusal::Length => write!(f, "a slice has not the length that the shape asks for"),
+            Refusal::Shape => write!(f, "h or m is out of range"),
+            Refusal::Length => write!(f, "wrong slice length for this shape"),
             Refusal::Symbol { place } => write!(f, "the symbol at place {place} is 2^h or more"),
-            Refusal::Message => write!(f, "the message number needs more than its bits"),
+            Refusal::Message => write!(f, "message number too large for this shape"),
             Refusal::NoWord => write!(f, "no message has this word"),
-            Refusal::Octary => write!(f, "eight phases are not decoded"),
-            Refusal::Value { place } => write!(f, "the input at place {place} is outside its range"),
+            Refusal::Octary => write!(f, "decoding of eight phases (h = 3) is not supported"),
+            Refusal::Value { place } => write!(f, "the input at place {place} is out of range"),
         }
     }
 }
@@ -62,7 +62,7 @@ pub enum Which {
 }
 
 impl Which {
-    /// The word of that number, where there is one.
+    /// The word with this number, if there is one.
     pub(crate) fn numbered(which: u32) -> Option<Which> {
         match which {
             1 => Some(Which::First),
@@ -72,7 +72,7 @@ impl Which {
     }
 }
 
-/// Why the pair check refuses, and of a bad symbol which word has it.
+/// Why the pair check refuses and, for a bad symbol, which word it is in.
 #[derive(Clone, Copy, Debug, PartialEq, Eq, Hash)]
 pub struct PairRefusal {
     pub refusal: Refusal,
@@ -92,7 +92,7 @@ impl fmt::Display for PairRefusal {
 
 impl Error for PairRefusal {}
 
-/// What a call answers: what it gave, where its number is 0, else the refusal of that number.
+/// What a call answers: its result if it returned 0, otherwise the refusal with the number it returned.
 pub(crate) fn answer<T>(kind: u32, place: usize, given: T) -> Result<T, Refusal> {
     Err(match kind {
         0 => return Ok(given),
@@ -103,6 +103,6 @@ pub(crate) fn answer<T>(kind: u32, place: usize, given: T) -> Result<T, Refusal>
         5 => Refusal::NoWord,
         6 => Refusal::Octary,
         7 => Refusal::Value { place },
-        other => unreachable!("the archive has no refusal {other}"),
+        other => unreachable!("refusal {other} is not in the table: the archive is of another version"),
     })
 }

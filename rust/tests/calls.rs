@@ -131,6 +131,8 @@ fn a_refused_transform_changes_nothing() {
 fn refusals_read_well() {
     let why = check(1, 2, &[0; 4], &[0, 0, 2, 2]).unwrap_err();
     assert_eq!(why.to_string(), "the symbol at place 2 is 2^h or more, in the second word");
+    assert_eq!(Refusal::Length.to_string(), "wrong slice length for this shape");
+    assert_eq!(Refusal::Message.to_string(), "message number too large for this shape");
     let numbers = [
         Refusal::Shape,
         Refusal::Length,

@@ -4,8 +4,8 @@
 use crate::draw;
 use crate::guard::Guarded;
 use crate::tally::Made;
-use second::{No, Random};
-use sharqudel::{Message, PairRefusal, Refusal, Which};
+use second::{Message, No, Random};
+use sharqudel::{PairRefusal, Refusal, Which};
 use std::fmt::Debug;
 
 /// A refusal of the library, as the second program tells it.
@@ -15,6 +15,11 @@ fn no(refusal: Refusal) -> No {
         _ => None,
     };
     No { kind: refusal.number(), place, word: None }
+}
+
+/// A message of the library, as the second program tells it.
+fn told(message: sharqudel::Message) -> Message {
+    Message(message.0)
 }
 
 fn no_of_pair(why: PairRefusal) -> No {
@@ -47,11 +52,12 @@ fn made_reading<A: Debug>(name: &'static str, call: String, library: Result<A, N
 fn sending(random: &mut Random, name: &'static str) -> Made {
     let (h, m) = draw::shape(random);
     let (message, before) = (draw::message(random, h, m), draw::output(random, h, m));
+    let given = sharqudel::Message(message.0);
     let mut out = Guarded::new(&before, 251);
     let (answer, right) = if name == "encode" {
-        (sharqudel::encode(h, m, Message(message), out.lent()), second::encode(h, m, message, before.len()))
+        (sharqudel::encode(h, m, given, out.lent()), second::encode(h, m, message, before.len()))
     } else {
-        (sharqudel::partner(h, m, Message(message), out.lent()), second::partner(h, m, message, before.len()))
+        (sharqudel::partner(h, m, given, out.lent()), second::partner(h, m, message, before.len()))
     };
     let after = right.clone().unwrap_or_else(|_| before.clone());
     let library = (answer.map_err(no), out.contents().to_vec(), out.whole());
@@ -69,14 +75,14 @@ fn pairing(random: &mut Random) -> Made {
 fn reading(random: &mut Random) -> Made {
     let (h, m) = draw::shape(random);
     let word = draw::word(random, h, m);
-    let answer = sharqudel::read(h, m, &word).map(|message| message.0).map_err(no);
+    let answer = sharqudel::read(h, m, &word).map(told).map_err(no);
     made_reading("read", format!("read {h} {m} {word:?}"), answer, second::read(h, m, &word))
 }
 
 fn hearing(random: &mut Random) -> Made {
     let (h, m) = draw::shape(random);
     let values = draw::values(random, h, m);
-    let answer = sharqudel::soft(h, m, &values).map(|a| (a.message.0, a.correlation as i64, a.tied)).map_err(no);
+    let answer = sharqudel::soft(h, m, &values).map(|a| (told(a.message), a.correlation as i64, a.tied)).map_err(no);
     let right = second::soft(h, m, &values).map(|a| (a.message, a.value, a.tied));
     made_reading("soft", format!("soft {h} {m} {values:?}"), answer, right)
 }
@@ -84,7 +90,7 @@ fn hearing(random: &mut Random) -> Made {
 fn matching(random: &mut Random) -> Made {
     let (h, m) = draw::shape(random);
     let word = draw::word(random, h, m);
-    let answer = sharqudel::hard(h, m, &word).map(|a| (a.message.0, a.distance as i64, a.tied)).map_err(no);
+    let answer = sharqudel::hard(h, m, &word).map(|a| (told(a.message), a.distance as i64, a.tied)).map_err(no);
     let right = second::hard(h, m, &word).map(|a| (a.message, a.value, a.tied));
     made_reading("hard", format!("hard {h} {m} {word:?}"), answer, right)
 }

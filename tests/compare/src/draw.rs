@@ -1,6 +1,6 @@
 //! What the calls are given: mostly words and values such as a receiver has, and among them all that can be wrong.
 
-use second::{encode, messages, partner, Random};
+use second::{encode, messages, partner, Message, Random, Shape, GREATEST_H, GREATEST_M};
 
 const EXTREMES: [i64; 5] = [-32768, -32767, 0, 32766, 32767];
 const OUTSIDE: [i64; 6] = [32768, -32769, 65536, -65536, i32::MAX as i64, i32::MIN as i64];
@@ -15,14 +15,15 @@ fn one_of<T: Copy>(random: &mut Random, from: &[T]) -> T {
 }
 
 fn in_shape(h: u32, m: u32) -> bool {
-    (1..=3).contains(&h) && (2..=5).contains(&m)
+    Shape::of(h, m).is_some()
 }
 
 /// A shape, now and then one out of range, also one that would be in range with its upper bits cut off.
 pub fn shape(random: &mut Random) -> (u32, u32) {
     let wrong_h = [0, 4, 5, 17, 32, 33, 64, 65, 255, 257, 65537, u32::MAX];
-    let wrong_m = [0, 1, 6, 7, 18, 32, 34, 63, 64, 66, 255, 258, 65538, u32::MAX];
-    let (mut h, mut m) = (1 + random.below(3) as u32, 2 + random.below(4) as u32);
+    let wrong_m = [0, 1, GREATEST_M + 1, GREATEST_M + 2, 18, 32, 34, 63, 64, 66, 255, 258, 65538, u32::MAX];
+    let mut h = 1 + random.below(u64::from(GREATEST_H)) as u32;
+    let mut m = 2 + random.below(u64::from(GREATEST_M) - 1) as u32;
     if one_in(random, 16) {
         h = one_of(random, &wrong_h);
     }
@@ -43,8 +44,12 @@ fn length(random: &mut Random, h: u32, m: u32, right: usize) -> usize {
     right
 }
 
-/// A message number, now and then one that needs more than its bits.
-pub fn message(random: &mut Random, h: u32, m: u32) -> u64 {
+/// A message number, now and then one that is too large.
+pub fn message(random: &mut Random, h: u32, m: u32) -> Message {
+    Message(message_number(random, h, m))
+}
+
+fn message_number(random: &mut Random, h: u32, m: u32) -> u64 {
     if !in_shape(h, m) || one_in(random, 16) {
         return one_of(random, &[0, 1, u64::MAX, 1 << 63, 1 << 32]);
     }
@@ -64,7 +69,7 @@ pub fn output(random: &mut Random, h: u32, m: u32) -> Vec<u8> {
 
 /// A message's word, or its partner.
 fn sent(random: &mut Random, h: u32, m: u32) -> Vec<u8> {
-    let message = random.below(messages(h, m));
+    let message = Message(random.below(messages(h, m)));
     let call = if one_in(random, 4) { partner } else { encode };
     call(h, m, message, 1 << m).expect("a message of the shape")
 }
@@ -97,7 +102,7 @@ pub fn two_words(random: &mut Random, h: u32, m: u32) -> (Vec<u8>, Vec<u8>) {
         return (word(random, h, m), word(random, h, m));
     }
     let (n, q) = (1usize << m, 1u64 << h);
-    let message = random.below(messages(h, m));
+    let message = Message(random.below(messages(h, m)));
     let mut pair = [encode, partner].map(|call| {
         let turn = random.below(q) as u8;
         let word = call(h, m, message, n).expect("a message of the shape");
@@ -141,7 +146,7 @@ pub fn values(random: &mut Random, h: u32, m: u32) -> Vec<i16> {
 
 /// Both areas of a transform: often longer than N, now and then shorter, or with a value out of range.
 pub fn areas(random: &mut Random, m: u32) -> (Vec<i32>, Vec<i32>) {
-    let n = if (2..=5).contains(&m) { 1u64 << m } else { 8 };
+    let n = if in_shape(1, m) { 1u64 << m } else { 8 };
     let lengths =
         [0, 1].map(|_| if one_in(random, 16) { random.below(n) } else { n + random.below(3) * random.below(9) });
     let mut first: Vec<i32> = match random.below(4) {

@@ -1,37 +1,67 @@
-//! Reading, soft and hard decoding, by going through the words of all messages of the shape.
+//! Reading, soft and hard decoding, path by path through the paths in use. No table of all words is kept.
 //!
-//! Only paths in use are looked at. Equals go to the earliest label; "tied" says that another word has the same.
+//! Equals go to the earliest label; "tied" says that another word has the same.
 
+use crate::messages::{Label, Message};
+use crate::paths::paths;
 use crate::refusal::{self, No, NO_WORD};
-use crate::shape::Shape;
-use crate::tables;
+use crate::search::greatest;
+use crate::shape::{digit, Shape};
+use crate::words::{linear, quadratic};
 
 /// What a decoder answers.
 #[derive(Clone, Copy, PartialEq, Eq, Debug)]
 pub struct Found {
-    pub message: u64,
+    pub message: Message,
     /// The correlation (soft) or the distance (hard).
     pub value: i64,
     pub tied: bool,
 }
 
 /// The message whose word the N symbols are exactly.
-pub fn read(h: u32, m: u32, word: &[u8]) -> Result<u64, No> {
-    let shape = refusal::of_read(h, m, word)?;
-    tables::message_of(shape, word).ok_or(No::plain(NO_WORD))
+pub fn read(h: u32, m: u32, symbols: &[u8]) -> Result<Message, No> {
+    let shape = refusal::of_read(h, m, symbols)?;
+    let label = label_with(shape, symbols).ok_or(No::plain(NO_WORD))?;
+    Ok(label.message(shape))
 }
 
 /// The message of greatest correlation.
 pub fn soft(h: u32, m: u32, values: &[i16]) -> Result<Found, No> {
     let shape = refusal::of_soft(h, m, values)?;
-    Ok(greatest(shape, |place, symbol| heard(shape, values, place, symbol)))
+    Ok(loudest(shape, values))
 }
 
-/// The message of the nearest word: the greatest of the distances negated.
-pub fn hard(h: u32, m: u32, word: &[u8]) -> Result<Found, No> {
-    let shape = refusal::of_hard(h, m, word)?;
-    let nearest = greatest(shape, |place, symbol| -distance(shape, word[place], symbol));
-    Ok(Found { value: -nearest.value, ..nearest })
+/// The message of the nearest word.
+pub fn hard(h: u32, m: u32, symbols: &[u8]) -> Result<Found, No> {
+    let shape = refusal::of_hard(h, m, symbols)?;
+    Ok(nearest(shape, symbols))
+}
+
+/// The label whose word these symbols are. A word shows its coefficients: c where all digits are 0, and c_k + c where
+/// x_k alone is 1, as every product of two digits is 0 there. What is left when their linear part is taken off is the
+/// quadratic part of a path in use, or these symbols are no word.
+pub fn label_with(shape: Shape, symbols: &[u8]) -> Option<Label> {
+    let (m, phases) = (shape.m(), shape.phases() as u8);
+    let less = |a: u8, b: u8| shape.modulo(a + phases - b);
+    let alone = |place: usize, k: u32| (1..=m).all(|l| digit(m, place, l) == u32::from(l == k));
+    let place = |k: u32| (0..shape.carriers()).find(|&place| alone(place, k)).expect("a place where x_k alone is 1");
+    let c = symbols[0];
+    let coefficients: Vec<u8> = (1..=m).map(|k| less(symbols[place(k)], c)).chain([c]).collect();
+    let left: Vec<u8> = symbols.iter().zip(linear(shape, &coefficients)).map(|(&a, b)| less(a, b)).collect();
+    let path = paths(m)[..shape.paths_in_use()].iter().position(|path| quadratic(shape, path) == left)?;
+    Some(Label { path, coefficients })
+}
+
+/// The first word of greatest correlation.
+pub fn loudest(shape: Shape, values: &[i16]) -> Found {
+    let best = greatest(shape, |place, symbol| heard(shape, values, place, symbol));
+    Found { message: best.label.message(shape), value: best.score, tied: best.tied }
+}
+
+/// The first word of least distance: the greatest of the distances negated.
+pub fn nearest(shape: Shape, symbols: &[u8]) -> Found {
+    let best = greatest(shape, |place, symbol| -distance(shape, symbols[place], symbol));
+    Found { message: best.label.message(shape), value: -best.score, tied: best.tied }
 }
 
 /// What a place adds to the correlation with a word that has this symbol there.
@@ -55,24 +85,4 @@ fn distance(shape: Shape, a: u8, b: u8) -> i64 {
     let phases = i64::from(shape.phases());
     let d = (i64::from(a) - i64::from(b)).rem_euclid(phases);
     d.min(phases - d)
-}
-
-/// Goes through all words in label order. A word's score is the sum of its places' scores.
-/// For speed the sum is bracketed: the sums over four places are made once for each of the 256 ways to fill them.
-fn greatest(shape: Shape, score: impl Fn(usize, u8) -> i64) -> Found {
-    let four = |group: usize, filling: usize| -> i64 {
-        (0..4).map(|t| score(4 * group + t, (filling >> (2 * t)) as u8 % 4)).sum()
-    };
-    let groups = shape.carriers() / 4;
-    let sums: Vec<[i64; 256]> = (0..groups).map(|group| std::array::from_fn(|filling| four(group, filling))).collect();
-    let mut best = Found { message: 0, value: i64::MIN, tied: false };
-    for (message, packed) in tables::in_label_order(shape).iter().enumerate() {
-        let value = sums.iter().zip(packed.to_le_bytes()).map(|(sum, filling)| sum[filling as usize]).sum();
-        if value > best.value {
-            best = Found { message: message as u64, value, tied: false };
-        } else if value == best.value {
-            best.tied = true;
-        }
-    }
-    best
 }

@@ -3,7 +3,7 @@
 use std::str::FromStr;
 
 /// A word or a list has at most so many entries.
-const LONGEST: usize = 128;
+pub const LONGEST: usize = 128;
 
 /// What is still to be read of a line. Every step answers none where the line is no case.
 pub struct Given<'a> {

@@ -6,24 +6,28 @@
 pub mod cases;
 mod decoding;
 mod given;
+#[cfg(test)]
+mod larger;
 mod lines;
+mod messages;
 mod pairs;
 mod paths;
 mod random;
 pub mod refusal;
+mod search;
 mod shape;
 mod spectrum;
-mod tables;
 mod text;
 mod words;
 
 pub use decoding::{hard, read, soft, Found};
 pub use lines::answer;
+pub use messages::{Label, Message};
 pub use pairs::pair;
 pub use paths::{paths, Path};
 pub use random::Random;
 pub use refusal::No;
-pub use shape::{digit, messages, path_bits, Shape};
+pub use shape::{digit, messages, path_bits, Shape, GREATEST_H, GREATEST_M};
 pub use spectrum::{transform, Areas};
 pub use text::{list_text, word_text};
-pub use words::{encode, partner, word, Label};
+pub use words::{encode, partner, word};

@@ -2,6 +2,7 @@
 
 use crate::decoding::{hard, read, soft, Found};
 use crate::given::Given;
+use crate::messages::Message;
 use crate::pairs::pair;
 use crate::refusal::No;
 use crate::spectrum::transform;
@@ -51,9 +52,9 @@ fn answer_call(line: &str) -> Option<String> {
 }
 
 /// Encode and partner. The word given is what the slice holds before: it stays where the call is refused.
-fn written(given: &mut Given, call: fn(u32, u32, u64, usize) -> Result<Vec<u8>, No>) -> Option<String> {
+fn written(given: &mut Given, call: fn(u32, u32, Message, usize) -> Result<Vec<u8>, No>) -> Option<String> {
     let (h, m) = given.shape()?;
-    let message = given.number()?;
+    let message = Message(given.number()?);
     given.space()?;
     let slice = given.word()?;
     given.end()?;

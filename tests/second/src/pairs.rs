@@ -6,8 +6,13 @@ use crate::shape::Shape;
 /// Are two words of one shape a Golay pair?
 pub fn pair(h: u32, m: u32, first: &[u8], second: &[u8]) -> Result<bool, No> {
     let shape = refusal::of_pair(h, m, first, second)?;
+    Ok(golay(shape, first, second))
+}
+
+/// Whether the counts are equal for each shift and each phase.
+pub fn golay(shape: Shape, first: &[u8], second: &[u8]) -> bool {
     let at = |shift| (0..shape.phases()).all(|phase| balanced(shape, first, second, shift, phase));
-    Ok((1..shape.carriers()).all(at))
+    (1..shape.carriers()).all(at)
 }
 
 /// Whether the count for a phase equals the count for the phase half a turn on, over both words together.

@@ -3,6 +3,7 @@
 //! Each function `of_CALL` goes through the faults of one call in order and answers the first.
 //! Kinds 3 and 7 carry the first bad place; the pair check's 3 also says which word.
 
+use crate::messages::Message;
 use crate::shape::Shape;
 
 pub const SHAPE: u32 = 1;
@@ -33,10 +34,10 @@ impl No {
 }
 
 /// Encode and partner: 1, 2, 4.
-pub fn of_message(h: u32, m: u32, message: u64, length: usize) -> Result<Shape, No> {
+pub fn of_message(h: u32, m: u32, message: Message, length: usize) -> Result<Shape, No> {
     let shape = in_range(h, m)?;
     exactly(length, shape.carriers())?;
-    if message >= shape.messages() {
+    if message.0 >= shape.messages() {
         return Err(No::plain(MESSAGE));
     }
     Ok(shape)

@@ -49,7 +49,7 @@ fn differ_alone(m: u32, k: u32, one: usize, other: usize) -> bool {
     (1..=m).all(|l| (digit(m, one, l) != digit(m, other, l)) == (l == k))
 }
 
-/// Every sum of 32 values of 16 bits is far inside 32 bits.
+/// A sum of N values of 16 bits is far inside 32 bits.
 fn narrow(area: &[i64]) -> Vec<i32> {
     area.iter().map(|&entry| i32::try_from(entry).expect("a sum outside 32 bits")).collect()
 }
@@ -61,7 +61,7 @@ mod tests {
     /// 01 gives the spectrum twice, by its sum and by its stages: they agree.
     #[test]
     fn all_stages_give_the_sum() {
-        for m in 2..=5 {
+        for m in 2..=6 {
             let y: Vec<i64> = (0..1i64 << m).map(|i| (i * i * 7 + 3) % 101 - 50).collect();
             assert_eq!((1..=m).fold(y.clone(), |area, k| stage(m, k, &area)), spectrum(&y));
         }

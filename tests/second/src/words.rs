@@ -1,78 +1,60 @@
-//! Words: 001, Corollary 4; partners: 001, Theorem 3; messages: 01, "What a logger may send".
+//! Words: 001, Corollary 4; partners: 001, Theorem 3.
 
-use crate::paths::{paths, Path};
+use crate::messages::{Label, Message};
+use crate::paths::Path;
 use crate::refusal::{self, No};
 use crate::shape::{digit, Shape};
 
-/// A label: the path number, then c_1, .., c_m, c.
-#[derive(Clone, PartialEq, Eq, PartialOrd, Ord, Debug)]
-pub struct Label {
-    pub path: usize,
-    /// c_1 to c_m, then c.
-    pub coefficients: Vec<u8>,
-}
-
-impl Label {
-    /// The label of a message: path number highest, then c_1 to c_m, then c lowest, each in h plain binary bits.
-    pub fn of(shape: Shape, message: u64) -> Label {
-        let (h, m) = (shape.h(), shape.m());
-        let coefficient = |k: u32| ((message >> (h * (m - k))) % (1 << h)) as u8;
-        Label { path: (message >> (h * (m + 1))) as usize, coefficients: (0..=m).map(coefficient).collect() }
-    }
-
-    pub fn path(&self, shape: Shape) -> &'static Path {
-        &paths(shape.m())[self.path]
-    }
-}
-
 /// The word of a message, into N places.
-pub fn encode(h: u32, m: u32, message: u64, length: usize) -> Result<Vec<u8>, No> {
+pub fn encode(h: u32, m: u32, message: Message, length: usize) -> Result<Vec<u8>, No> {
     let shape = refusal::of_message(h, m, message, length)?;
     Ok(word(shape, &Label::of(shape, message)))
 }
 
-/// The partner of a message's word: the word plus 2^(h-1) x_p(1), modulo 2^h.
-pub fn partner(h: u32, m: u32, message: u64, length: usize) -> Result<Vec<u8>, No> {
+/// The partner of a message's word, into N places.
+pub fn partner(h: u32, m: u32, message: Message, length: usize) -> Result<Vec<u8>, No> {
     let shape = refusal::of_message(h, m, message, length)?;
-    let label = Label::of(shape, message);
-    let first = label.path(shape)[0];
-    let moved = |(place, symbol)| shape.modulo(symbol + (shape.half() * digit(m, place, first)) as u8);
-    Ok(word(shape, &label).into_iter().enumerate().map(moved).collect())
+    Ok(partner_word(shape, &Label::of(shape, message)))
 }
 
-/// The word of a label. Its path may be one that is not in use.
+/// The word of a label: the quadratic part of its path, and the linear part of its coefficients. The path may be one
+/// that is not in use.
 pub fn word(shape: Shape, label: &Label) -> Vec<u8> {
-    Rows::of(shape, label.path(shape)).word(&label.coefficients)
+    let mut word = linear(shape, &label.coefficients);
+    add(shape, &mut word, &quadratic(shape, label.path(shape)), 1);
+    word
 }
 
-/// What the words of one path share: the rows x_1 to x_m of the generator, and the path's quadratic part.
-pub struct Rows {
-    shape: Shape,
-    /// Row x_k at index k - 1.
-    x: Vec<Vec<u8>>,
-    /// 2^(h-1) (x_p(1) x_p(2) + .. + x_p(m-1) x_p(m)) at each place.
-    quadratic: Vec<u8>,
+/// The partner of a label's word: the word plus 2^(h-1) x_p(1).
+pub fn partner_word(shape: Shape, label: &Label) -> Vec<u8> {
+    let mut partner = word(shape, label);
+    add(shape, &mut partner, &row(shape, label.path(shape)[0]), shape.half() as u8);
+    partner
 }
 
-impl Rows {
-    pub fn of(shape: Shape, path: &Path) -> Rows {
-        let places = 0..shape.carriers();
-        let row = |k: u32| places.clone().map(|place| digit(shape.m(), place, k) as u8).collect();
-        let x: Vec<Vec<u8>> = (1..=shape.m()).map(row).collect();
-        let at = |place: usize, k: u32| x[k as usize - 1][place];
-        let sum = |place: usize| path.windows(2).map(|step| at(place, step[0]) * at(place, step[1])).sum::<u8>();
-        let quadratic = places.clone().map(|place| shape.half() as u8 * sum(place)).collect();
-        Rows { shape, x, quadratic }
-    }
+/// 2^(h-1) (x_p(1) x_p(2) + .. + x_p(m-1) x_p(m)), modulo 2^h, at each place.
+pub fn quadratic(shape: Shape, path: &Path) -> Vec<u8> {
+    let product = |place: usize, step: &[u32]| digit(shape.m(), place, step[0]) * digit(shape.m(), place, step[1]);
+    let sum = |place: usize| path.windows(2).map(|step| product(place, step)).sum::<u32>();
+    (0..shape.carriers()).map(|place| shape.modulo((shape.half() * sum(place)) as u8)).collect()
+}
 
-    /// The quadratic part + c_1 x_1 + .. + c_m x_m + c, modulo 2^h, at each place; no sum reaches 64.
-    pub fn word(&self, coefficients: &[u8]) -> Vec<u8> {
-        let mut word = self.quadratic.clone();
-        for (row, c) in self.x.iter().zip(coefficients) {
-            word.iter_mut().zip(row).for_each(|(symbol, x)| *symbol += c * x);
-        }
-        let c = coefficients[self.x.len()];
-        word.iter_mut().for_each(|symbol| *symbol = self.shape.modulo(*symbol + c));
-        word
+/// c_1 x_1 + .. + c_m x_m + c, modulo 2^h, at each place.
+pub fn linear(shape: Shape, coefficients: &[u8]) -> Vec<u8> {
+    let c = coefficients[shape.m() as usize];
+    let mut sum = vec![c; shape.carriers()];
+    for (k, c) in (1..=shape.m()).zip(coefficients) {
+        add(shape, &mut sum, &row(shape, k), *c);
     }
+    sum
+}
+
+/// Row x_k of the generator.
+fn row(shape: Shape, k: u32) -> Vec<u8> {
+    (0..shape.carriers()).map(|place| digit(shape.m(), place, k) as u8).collect()
+}
+
+/// Adds so many times a row, place by place, modulo 2^h.
+fn add(shape: Shape, word: &mut [u8], row: &[u8], times: u8) {
+    word.iter_mut().zip(row).for_each(|(symbol, x)| *symbol = shape.modulo(*symbol + times * x));
 }

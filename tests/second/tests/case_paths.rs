@@ -2,14 +2,14 @@
 
 use std::collections::HashSet;
 
-use second::{answer, cases, encode, path_bits, Shape};
+use second::{answer, cases, encode, Label, Message, Shape};
 
-fn path(shape: Shape, message: u64) -> u64 {
-    message >> (shape.h() * (shape.m() + 1))
+fn path(shape: Shape, message: u64) -> usize {
+    Label::of(shape, Message(message)).path
 }
 
 /// The paths of the messages that a call answers on a shape, where these are exact and alone.
-fn clean_paths(lines: &[String], call: &str, exact: &str, shape: Shape) -> HashSet<u64> {
+fn clean_paths(lines: &[String], call: &str, exact: &str, shape: Shape) -> HashSet<usize> {
     let front = format!("{call} {} {} ", shape.h(), shape.m());
     let answers = lines.iter().filter(|line| line.starts_with(&front)).map(|line| answer(line));
     let message = |answer: String| answer.strip_prefix("message ")?.strip_suffix(exact)?.parse().ok();
@@ -20,15 +20,15 @@ fn clean_paths(lines: &[String], call: &str, exact: &str, shape: Shape) -> HashS
 fn each_path_in_use_is_read() {
     let lines = cases::all(1999);
     for shape in Shape::all() {
-        assert_eq!(clean_paths(&lines, "read", "", shape).len(), 1 << path_bits(shape.m()), "{shape:?}");
+        assert_eq!(clean_paths(&lines, "read", "", shape).len(), shape.paths_in_use(), "{shape:?}");
     }
 }
 
 #[test]
 fn each_path_in_use_is_decoded() {
     let lines = cases::all(1999);
-    for shape in Shape::all().filter(|shape| shape.h() < 3) {
-        let count = 1 << path_bits(shape.m());
+    for shape in Shape::decoded() {
+        let count = shape.paths_in_use();
         assert_eq!(clean_paths(&lines, "hard", " distance 0 not tied", shape).len(), count, "{shape:?}");
         let clean = format!(" correlation {} not tied", 100 * shape.carriers());
         assert_eq!(clean_paths(&lines, "soft", &clean, shape).len(), count, "{shape:?}");
@@ -53,7 +53,7 @@ fn heard(shape: Shape, call: &str, given: &str) -> Vec<(i64, i64)> {
 /// The messages of greatest correlation.
 fn loudest(shape: Shape, heard: &[(i64, i64)]) -> Vec<u64> {
     let correlation = |message| -> i64 {
-        let word = encode(shape.h(), shape.m(), message, shape.carriers()).unwrap();
+        let word = encode(shape.h(), shape.m(), Message(message), shape.carriers()).unwrap();
         let points = word.into_iter().map(|symbol| point(shape, symbol));
         heard.iter().zip(points).map(|(&(re, im), (x, y))| re * x + im * y).sum()
     };

@@ -1,13 +1,15 @@
 //! What 01 says of its own definitions, on every word of the smaller shapes.
 
-use second::{encode, hard, pair, partner, read, soft, Found, Label, Random, Shape};
+use std::collections::HashMap;
+
+use second::{encode, hard, pair, partner, read, soft, Found, Label, Message, Random, Shape};
 
 fn small() -> impl Iterator<Item = Shape> {
     Shape::all().filter(|shape| shape.messages() <= 1 << 13)
 }
 
 fn word(shape: Shape, message: u64) -> Vec<u8> {
-    encode(shape.h(), shape.m(), message, shape.carriers()).unwrap()
+    encode(shape.h(), shape.m(), Message(message), shape.carriers()).unwrap()
 }
 
 /// Numeric order of messages is label order, so the earliest label is the least message.
@@ -15,7 +17,7 @@ fn word(shape: Shape, message: u64) -> Vec<u8> {
 fn messages_are_in_label_order() {
     for shape in small() {
         for message in 1..shape.messages() {
-            assert!(Label::of(shape, message - 1) < Label::of(shape, message));
+            assert!(Label::of(shape, Message(message - 1)) < Label::of(shape, Message(message)));
         }
     }
 }
@@ -24,7 +26,21 @@ fn messages_are_in_label_order() {
 #[test]
 fn reading_gives_each_message_back() {
     for shape in small() {
-        assert!((0..shape.messages()).all(|g| read(shape.h(), shape.m(), &word(shape, g)) == Ok(g)));
+        assert!((0..shape.messages()).all(|g| read(shape.h(), shape.m(), &word(shape, g)) == Ok(Message(g))));
+    }
+}
+
+/// Reading is a look-up among the words of all messages, whatever the symbols.
+#[test]
+fn reading_finds_a_word_among_all() {
+    for (h, m) in [(1, 2), (2, 2), (3, 2), (1, 3), (2, 3)] {
+        let shape = Shape::of(h, m).unwrap();
+        let all: HashMap<Vec<u8>, u64> = (0..shape.messages()).map(|g| (word(shape, g), g)).collect();
+        let (phases, places) = (u64::from(shape.phases()), shape.carriers() as u32);
+        for number in 0..phases.pow(places) {
+            let symbols: Vec<u8> = (0..places).map(|place| (number / phases.pow(place) % phases) as u8).collect();
+            assert_eq!(read(h, m, &symbols).ok(), all.get(&symbols).copied().map(Message));
+        }
     }
 }
 
@@ -35,7 +51,7 @@ fn words_pair_with_their_partners_and_never_with_themselves() {
         let mut random = Random::new(3);
         for message in (0..40).map(|_| random.below(shape.messages())) {
             let (h, m, one) = (shape.h(), shape.m(), word(shape, message));
-            let other = partner(h, m, message, shape.carriers()).unwrap();
+            let other = partner(h, m, Message(message), shape.carriers()).unwrap();
             assert_eq!(pair(h, m, &one, &other), Ok(true));
             assert_eq!(pair(h, m, &one, &one), Ok(false));
         }
@@ -63,7 +79,7 @@ fn the_answer_is_the_first_of_the_greatest() {
             let values: Vec<i16> = (0..shape.soft_values()).map(|_| random.range(-width, width) as i16).collect();
             let all: Vec<i64> = (0..shape.messages()).map(|g| correlation(shape, &word(shape, g), &values)).collect();
             let value = *all.iter().max().unwrap();
-            let message = all.iter().position(|&one| one == value).unwrap() as u64;
+            let message = Message(all.iter().position(|&one| one == value).unwrap() as u64);
             let tied = all.iter().filter(|&&one| one == value).count() > 1;
             assert_eq!(soft(shape.h(), shape.m(), &values), Ok(Found { message, value, tied }));
         }

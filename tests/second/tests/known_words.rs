@@ -1,6 +1,6 @@
 //! 01's known words and path lists, as 01 prints them.
 
-use second::{encode, hard, pair, partner, paths, read, soft, Found, No};
+use second::{encode, hard, pair, partner, paths, read, soft, Found, Message, No, Shape, GREATEST_M};
 
 /// A word from its digits.
 fn symbols(word: &str) -> Vec<u8> {
@@ -35,7 +35,8 @@ fn words_and_partners() {
         (2, 4, 5120, "0002002002000222", None),
         (1, 2, 1, "1110", None),
     ];
-    for (h, m, message, word, other) in cases {
+    for (h, m, number, word, other) in cases {
+        let message = Message(number);
         assert_eq!(encode(h, m, message, 1 << m), Ok(symbols(word)));
         assert_eq!(read(h, m, &symbols(word)), Ok(message));
         if let Some(other) = other {
@@ -47,18 +48,18 @@ fn words_and_partners() {
 
 #[test]
 fn message_range() {
-    assert!(encode(1, 4, 255, 16).is_ok());
-    refused(encode(1, 4, 256, 16), 4);
-    assert!(encode(3, 2, 511, 4).is_ok());
-    refused(encode(3, 2, 512, 4), 4);
-    refused(partner(3, 2, u64::MAX, 4), 4);
+    assert!(encode(1, 4, Message(255), 16).is_ok());
+    refused(encode(1, 4, Message(256), 16), 4);
+    assert!(encode(3, 2, Message(511), 4).is_ok());
+    refused(encode(3, 2, Message(512), 4), 4);
+    refused(partner(3, 2, Message(u64::MAX), 4), 4);
 }
 
 #[test]
 fn shapes_out_of_range() {
-    for (h, m) in [(1, 1), (1, 6), (0, 2), (4, 2), (u32::MAX, u32::MAX), (3, 64), (3, 0)] {
-        refused(encode(h, m, 0, 4), 1);
-        refused(partner(h, m, 0, 4), 1);
+    for (h, m) in [(1, 1), (1, GREATEST_M + 1), (0, 2), (4, 2), (u32::MAX, u32::MAX), (3, 64), (3, 0)] {
+        refused(encode(h, m, Message(0), 4), 1);
+        refused(partner(h, m, Message(0), 4), 1);
         refused(pair(h, m, &[0; 4], &[0; 4]), 1);
         refused(read(h, m, &[0; 4]), 1);
         refused(soft(h, m, &[0; 4]), 1);
@@ -68,10 +69,10 @@ fn shapes_out_of_range() {
 
 #[test]
 fn soft_extremes_and_zeros() {
-    assert_eq!(soft(1, 2, &[-32_768; 4]), Ok(Found { message: 1, value: 65_536, tied: true }));
-    for (h, m) in [(1, 2), (1, 3), (1, 4), (1, 5), (2, 2), (2, 3), (2, 4), (2, 5)] {
-        let zeros = vec![0; (h as usize) << m];
-        assert_eq!(soft(h, m, &zeros), Ok(Found { message: 0, value: 0, tied: true }));
+    assert_eq!(soft(1, 2, &[-32_768; 4]), Ok(Found { message: Message(1), value: 65_536, tied: true }));
+    for shape in Shape::decoded() {
+        let zeros = vec![0; shape.soft_values()];
+        assert_eq!(soft(shape.h(), shape.m(), &zeros), Ok(Found { message: Message(0), value: 0, tied: true }));
     }
 }
 
@@ -79,7 +80,7 @@ fn soft_extremes_and_zeros() {
 #[test]
 fn the_four_words_that_are_tied() {
     let minus = |message| {
-        let word = encode(1, 2, message, 4).unwrap();
+        let word = encode(1, 2, Message(message), 4).unwrap();
         word.iter().map(|&symbol| if symbol == 1 { 1 } else { -1 }).sum::<i32>()
     };
     let loudest: Vec<u64> = (0..8).filter(|&message| minus(message) * 32_768 == 65_536).collect();
@@ -88,10 +89,10 @@ fn the_four_words_that_are_tied() {
 
 #[test]
 fn hard_known() {
-    assert_eq!(hard(1, 2, &[1; 4]), Ok(Found { message: 1, value: 1, tied: true }));
+    assert_eq!(hard(1, 2, &[1; 4]), Ok(Found { message: Message(1), value: 1, tied: true }));
     refused(read(1, 2, &[1; 4]), 5);
     let damaged = symbols("1001001000011101");
-    assert_eq!(hard(1, 4, &damaged), Ok(Found { message: 0, value: 1, tied: false }));
+    assert_eq!(hard(1, 4, &damaged), Ok(Found { message: Message(0), value: 1, tied: false }));
 }
 
 #[test]

@@ -1,6 +1,6 @@
 //! The counts of the pair check against 001's own form: C_a(u) + C_b(u) = 0 for each shift, in complex numbers.
 
-use second::{encode, pair, partner, Random, Shape};
+use second::{encode, pair, partner, Message, Random, Shape};
 
 /// Whether the sum of both words' autocorrelations is 0 at each shift. Sums are far from 0 where they are not 0.
 fn golay(shape: Shape, first: &[u8], second: &[u8]) -> bool {
@@ -41,7 +41,7 @@ fn every_two_words_of_the_small_shapes() {
 fn words_and_partners_with_a_change_at_each_place() {
     let mut random = Random::new(11);
     for shape in Shape::all() {
-        let message = random.below(shape.messages());
+        let message = Message(random.below(shape.messages()));
         let word = encode(shape.h(), shape.m(), message, shape.carriers()).unwrap();
         let other = partner(shape.h(), shape.m(), message, shape.carriers()).unwrap();
         agree(shape, &word, &other);

@@ -1,6 +1,6 @@
 //! Words, decodings and spectra as 000, 001 and 004 print them.
 
-use second::{encode, hard, paths, read, transform, word, Found, Label, No, Shape};
+use second::{encode, hard, paths, read, transform, word, Found, Label, Message, No, Shape};
 
 /// A word from its digits.
 fn symbols(word: &str) -> Vec<u8> {
@@ -31,7 +31,7 @@ fn representatives_of_000() {
     assert_eq!(paths(4).len(), REPRESENTATIVES.len());
     for (path, printed) in REPRESENTATIVES.into_iter().enumerate() {
         assert_eq!(word(shape, &Label { path, coefficients: vec![0; 5] }), symbols(printed));
-        let message = (path as u64) << 10;
+        let message = Message((path as u64) << 10);
         let in_use = path < 8;
         assert_eq!(read(2, 4, &symbols(printed)), if in_use { Ok(message) } else { Err(NO_WORD) });
     }
@@ -41,7 +41,7 @@ fn representatives_of_000() {
 /// Its Table 1 gives the least Lee distance 8, so an error of weight 3 has one nearest word.
 #[test]
 fn decoding_example_of_000() {
-    let message = 6 << 10 | 3 << 6 | 1 << 4 | 2 << 2 | 1;
+    let message = Message(6 << 10 | 3 << 6 | 1 << 4 | 2 << 2 | 1);
     assert_eq!(encode(2, 4, message, 16), Ok(symbols("1322021113002011")));
     let received = symbols("1322021213002031");
     assert_eq!(hard(2, 4, &received), Ok(Found { message, value: 3, tied: false }));
@@ -62,8 +62,8 @@ fn spectrum_of_000() {
 /// 001's octary example: information bits 011101111011110110, path 1342.
 #[test]
 fn octary_word_of_001() {
-    let message = 0b011_101_111_011_110_110;
-    assert_eq!(message, 122_614);
+    let message = Message(0b011_101_111_011_110_110);
+    assert_eq!(message, Message(122_614));
     assert_eq!(encode(3, 4, message, 16), Ok(symbols("6413570631242417")));
     assert_eq!(read(3, 4, &symbols("6413570631242417")), Ok(message));
 }
@@ -72,20 +72,20 @@ fn octary_word_of_001() {
 /// and 3214, number 11 and not in use.
 #[test]
 fn binary_words_of_001() {
-    let word_of = |message| encode(1, 3, message, 8).unwrap();
+    let word_of = |message| encode(1, 3, Message(message), 8).unwrap();
     assert_eq!(word_of(0), symbols("00010010"));
     for (bit, row) in [(3, "00001111"), (2, "00110011"), (1, "01010101"), (0, "11111111")] {
         let sum = symbols("00010010").into_iter().zip(symbols(row)).map(|(a, b)| (a + b) % 2);
         assert_eq!(word_of(1 << bit), sum.collect::<Vec<u8>>());
     }
-    assert_eq!(read(1, 4, &symbols("0000011001010011")), Ok(4 << 5));
+    assert_eq!(read(1, 4, &symbols("0000011001010011")), Ok(Message(4 << 5)));
     assert_eq!(read(1, 4, &symbols("0000001101011001")), Err(NO_WORD));
 }
 
 /// 004's coset leaders for m = 3: the paths 123, 213 and 132; 213 is number 2 and not in use.
 #[test]
 fn leaders_of_004() {
-    assert_eq!(read(2, 3, &symbols("00020020")), Ok(0));
-    assert_eq!(read(2, 3, &symbols("00020200")), Ok(1 << 8));
+    assert_eq!(read(2, 3, &symbols("00020020")), Ok(Message(0)));
+    assert_eq!(read(2, 3, &symbols("00020200")), Ok(Message(1 << 8)));
     assert_eq!(read(2, 3, &symbols("00000220")), Err(NO_WORD));
 }

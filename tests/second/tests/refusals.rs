@@ -1,6 +1,6 @@
 //! The order of refusals, and the places that they carry.
 
-use second::{encode, hard, pair, partner, read, soft, transform, No};
+use second::{encode, hard, pair, partner, read, soft, transform, Message, No, GREATEST_M};
 
 fn plain(kind: u32) -> No {
     No { kind, place: None, word: None }
@@ -17,15 +17,15 @@ fn in_word(place: usize, word: u32) -> No {
 #[test]
 fn encode_and_partner_look_at_shape_length_message() {
     for call in [encode, partner] {
-        assert_eq!(call(4, 2, u64::MAX, 5), Err(plain(1)));
-        assert_eq!(call(1, 2, u64::MAX, 5), Err(plain(2)));
-        assert_eq!(call(1, 2, 8, 4), Err(plain(4)));
+        assert_eq!(call(4, 2, Message(u64::MAX), 5), Err(plain(1)));
+        assert_eq!(call(1, 2, Message(u64::MAX), 5), Err(plain(2)));
+        assert_eq!(call(1, 2, Message(8), 4), Err(plain(4)));
     }
 }
 
 #[test]
 fn the_pair_check_says_which_word() {
-    assert_eq!(pair(1, 6, &[2; 4], &[2; 4]), Err(plain(1)));
+    assert_eq!(pair(1, GREATEST_M + 1, &[2; 4], &[2; 4]), Err(plain(1)));
     assert_eq!(pair(1, 2, &[2; 4], &[2; 5]), Err(plain(2)));
     assert_eq!(pair(1, 2, &[2; 3], &[2; 4]), Err(plain(2)));
     assert_eq!(pair(1, 2, &[0, 0, 2, 2], &[2, 0, 0, 0]), Err(in_word(2, 1)));
@@ -37,7 +37,7 @@ fn eight_phases_are_read_and_not_decoded() {
     assert_eq!(read(3, 2, &[0, 0, 0, 8]), Err(at(3, 3)));
     assert_eq!(hard(3, 2, &[9; 5]), Err(plain(6)));
     assert_eq!(soft(3, 2, &[1; 5]), Err(plain(6)));
-    assert_eq!(hard(3, 6, &[9; 5]), Err(plain(1)));
+    assert_eq!(hard(3, GREATEST_M + 1, &[9; 5]), Err(plain(1)));
     assert_eq!(soft(3, 1, &[1; 5]), Err(plain(1)));
 }
 

@@ -1,21 +1,22 @@
 //! Transform, run and look: contents, lengths and values of both areas.
 
 use super::Cases;
+use crate::shape::GREATEST_M;
 
 const CALLS: [&str; 3] = ["transform", "run", "look"];
 const OUT_OF_RANGE: [i32; 4] = [32_768, -32_769, i32::MAX, i32::MIN];
 
 pub fn add(cases: &mut Cases) {
     cases.family("areas: contents in range, areas longer than N, junk in the second");
-    for m in 2..=5 {
+    for m in 2..=GREATEST_M {
         contents(cases, m);
     }
     cases.family("areas: values out of range at every place, two at once, and behind N");
-    for m in 2..=5 {
+    for m in 2..=GREATEST_M {
         values(cases, m);
     }
     cases.family("areas: too short");
-    for m in 2..=5 {
+    for m in 2..=GREATEST_M {
         lengths(cases, m);
     }
 }

@@ -1,16 +1,17 @@
 //! Lines that are no case, and some that look so and are one.
 
 use super::Cases;
+use crate::given::LONGEST;
 
 pub fn add(cases: &mut Cases) {
     cases.family("damaged lines");
     for line in LINES {
         cases.line(*line);
     }
-    cases.line(format!("read 1 2 [{}]", "0".repeat(129)));
-    cases.line(format!("encode 1 2 0 [{}]", "(255)".repeat(129)));
-    cases.line(format!("soft 1 2 [1{}]", " 1".repeat(128)));
-    cases.line(format!("run 2 [1 2 3 4] [0{}]", " 0".repeat(128)));
+    cases.line(format!("read 1 2 [{}]", "0".repeat(LONGEST + 1)));
+    cases.line(format!("encode 1 2 0 [{}]", "(255)".repeat(LONGEST + 1)));
+    cases.line(format!("soft 1 2 [1{}]", " 1".repeat(LONGEST)));
+    cases.line(format!("run 2 [1 2 3 4] [0{}]", " 0".repeat(LONGEST)));
     cases.line("[".repeat(300));
     cases.family("odd lines that are cases, and comments");
     for line in ODD {

@@ -1,6 +1,6 @@
 //! Hard decoding: clean words of every path, words damaged well beyond half the distance, equal symbols, random words.
 
-use super::{in_use, not_in_use, word_of, Cases};
+use super::{ends, in_use, not_in_use, word_of, Cases};
 use crate::shape::Shape;
 
 /// Received words whose nearest words are several and of one path. Chance seldom meets them: of all 2^16 words of
@@ -19,16 +19,16 @@ const TIED_IN_A_PATH: &[&str] = &[
 pub fn add(cases: &mut Cases) {
     // A clean word is at distance 0 from its path's words alone: a search of other paths than those in use shows.
     cases.family("hard decoding: clean words of every path in use, then of those not in use");
-    for shape in Shape::all().filter(|shape| shape.h() < 3) {
+    for shape in Shape::decoded() {
         for path in in_use(shape).chain(not_in_use(shape)) {
             let word = cases.word_of_path(shape, path);
             cases.hard(shape.h(), shape.m(), &word);
         }
     }
     cases.family("hard decoding: first and last message, damaged, all equal, random");
-    for shape in Shape::all().filter(|shape| shape.h() < 3) {
+    for shape in Shape::decoded() {
         let (h, m, carriers) = (shape.h(), shape.m(), shape.carriers());
-        for message in [0, shape.messages() - 1] {
+        for message in ends(shape) {
             cases.hard(h, m, &word_of(shape, message));
         }
         for count in 1..=(carriers / 2 + 1) {

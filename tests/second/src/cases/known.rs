@@ -1,25 +1,28 @@
 //! 01's "Known words", literally.
 
 use super::Cases;
+use crate::messages::Message;
+use crate::shape::{Shape, GREATEST_M};
 
 pub fn add(cases: &mut Cases) {
     cases.family("01's known words");
     for line in LINES {
         cases.line(*line);
     }
+    let out_of_range = [(2, 1), (2, GREATEST_M + 1), (0, 2), (4, 2)];
     for call in ["encode", "partner"] {
-        for (h, m) in [(2, 1), (2, 6), (0, 2), (4, 2)] {
-            cases.write(call, h, m, 0, &[9; 4]);
+        for (h, m) in out_of_range {
+            cases.write(call, h, m, Message(0), &[9; 4]);
         }
     }
-    for (h, m) in [(2, 1), (2, 6), (0, 2), (4, 2)] {
+    for (h, m) in out_of_range {
         cases.pair(h, m, &[0, 0, 0, 2], &[0, 0, 2, 0]);
         cases.read(h, m, &[0, 0, 0, 2]);
         cases.hard(h, m, &[0, 0, 0, 2]);
         cases.soft(h, m, &[0; 8]);
     }
-    for (h, m) in [(1, 2), (1, 3), (1, 4), (1, 5), (2, 2), (2, 3), (2, 4), (2, 5)] {
-        cases.soft(h, m, &vec![0; (h as usize) << m]);
+    for shape in Shape::decoded() {
+        cases.soft(shape.h(), shape.m(), &vec![0; shape.soft_values()]);
     }
 }
 

@@ -16,11 +16,12 @@ mod symbols;
 use std::collections::HashSet;
 use std::ops::Range;
 
+use crate::messages::{Label, Message};
 use crate::paths::paths;
 use crate::random::Random;
-use crate::shape::{path_bits, Shape};
+use crate::shape::Shape;
 use crate::text::{list_text, word_text};
-use crate::words::{encode, partner, word, Label};
+use crate::words::{partner_word, word};
 
 /// All case lines, without their newlines. The first says how they were made.
 pub fn all(seed: u64) -> Vec<String> {
@@ -66,7 +67,7 @@ impl Cases {
     }
 
     /// Encode or partner; the slice is what the output holds before.
-    fn write(&mut self, call: &str, h: u32, m: u32, message: u64, slice: &[u8]) {
+    fn write(&mut self, call: &str, h: u32, m: u32, message: Message, slice: &[u8]) {
         self.line(format!("{call} {h} {m} {message} {}", word_text(slice)));
     }
 
@@ -91,8 +92,8 @@ impl Cases {
         self.line(format!("{call} {m} {} {}", list_text(first), list_text(second)));
     }
 
-    fn message(&mut self, shape: Shape) -> u64 {
-        self.random.below(shape.messages())
+    fn message(&mut self, shape: Shape) -> Message {
+        Message(self.random.below(shape.messages()))
     }
 
     fn word(&mut self, shape: Shape) -> Vec<u8> {
@@ -101,9 +102,9 @@ impl Cases {
     }
 
     /// A message of this path, which is in use: the path number above, coefficients below.
-    fn message_of_path(&mut self, shape: Shape, path: usize) -> u64 {
-        let below = 1 << (shape.h() * (shape.m() + 1));
-        path as u64 * below + self.random.below(below)
+    fn message_of_path(&mut self, shape: Shape, path: usize) -> Message {
+        let below = 1 << shape.coefficient_bits();
+        Message(path as u64 * below + self.random.below(below))
     }
 
     /// A word of this path, in use or not.
@@ -134,7 +135,7 @@ impl Cases {
 
 /// The numbers of the paths in use.
 fn in_use(shape: Shape) -> Range<usize> {
-    0..1 << path_bits(shape.m())
+    0..shape.paths_in_use()
 }
 
 /// The numbers of the paths that are not in use.
@@ -148,10 +149,15 @@ fn in_turn(shape: Shape, count: usize) -> impl Iterator<Item = usize> {
     (0..count.max(paths)).map(move |number| number % paths)
 }
 
-fn word_of(shape: Shape, message: u64) -> Vec<u8> {
-    encode(shape.h(), shape.m(), message, shape.carriers()).expect("a message of the shape")
+/// The first and the last message.
+fn ends(shape: Shape) -> [Message; 2] {
+    [0, shape.messages() - 1].map(Message)
 }
 
-fn partner_of(shape: Shape, message: u64) -> Vec<u8> {
-    partner(shape.h(), shape.m(), message, shape.carriers()).expect("a message of the shape")
+fn word_of(shape: Shape, message: Message) -> Vec<u8> {
+    word(shape, &Label::of(shape, message))
+}
+
+fn partner_of(shape: Shape, message: Message) -> Vec<u8> {
+    partner_word(shape, &Label::of(shape, message))
 }

@@ -1,12 +1,13 @@
 //! The pair check on words of any origin.
 
-use super::{partner_of, word_of, Cases};
+use super::{ends, partner_of, word_of, Cases};
+use crate::messages::Message;
 use crate::shape::Shape;
 
 pub fn add(cases: &mut Cases) {
     cases.family("pairs: words with partners, with themselves, changed, shifted by a constant, reversed, random");
     for shape in Shape::all() {
-        for message in [0, shape.messages() - 1] {
+        for message in ends(shape) {
             around(cases, shape, message);
         }
         let message = cases.message(shape);
@@ -17,7 +18,7 @@ pub fn add(cases: &mut Cases) {
     }
 }
 
-fn around(cases: &mut Cases, shape: Shape, message: u64) {
+fn around(cases: &mut Cases, shape: Shape, message: Message) {
     let (h, m) = (shape.h(), shape.m());
     let (word, partner) = (word_of(shape, message), partner_of(shape, message));
     cases.pair(h, m, &word, &partner);

@@ -1,12 +1,12 @@
 //! Word reading: words of every path, damaged words, random words.
 
-use super::{in_turn, not_in_use, word_of, Cases};
+use super::{ends, in_turn, not_in_use, word_of, Cases};
 use crate::shape::Shape;
 
 pub fn add(cases: &mut Cases) {
     cases.family("reading: words of every path in use, the same with one symbol damaged, random words");
     for shape in Shape::all() {
-        for message in [0, shape.messages() - 1] {
+        for message in ends(shape) {
             cases.read(shape.h(), shape.m(), &word_of(shape, message));
         }
         for path in in_turn(shape, 8) {

@@ -1,29 +1,29 @@
 //! Soft decoding: clean words of every path, several levels, extremes, ties, noise.
 
-use super::{in_use, not_in_use, word_of, Cases};
+use super::{ends, in_use, not_in_use, word_of, Cases};
 use crate::shape::{digit, Shape};
 
 pub fn add(cases: &mut Cases) {
     cases.family("soft decoding: clean words of every path in use, then of those not in use");
-    for shape in Shape::all().filter(|shape| shape.h() < 3) {
+    for shape in Shape::decoded() {
         for path in in_use(shape).chain(not_in_use(shape)) {
             let word = cases.word_of_path(shape, path);
             cases.soft(shape.h(), shape.m(), &at_level(shape, &word, 100));
         }
     }
     cases.family("soft decoding: ties of one path alone");
-    for shape in Shape::all().filter(|shape| shape.h() < 3) {
+    for shape in Shape::decoded() {
         within_a_path(cases, shape);
     }
     cases.family("soft decoding: levels, extremes, zeros, ties, noise, random values");
-    for shape in Shape::all().filter(|shape| shape.h() < 3) {
+    for shape in Shape::decoded() {
         levels(cases, shape);
         extremes(cases, shape);
         between(cases, shape);
         noise(cases, shape);
     }
     cases.family("soft decoding: -32768 at one place alone");
-    for shape in Shape::all().filter(|shape| shape.h() < 3) {
+    for shape in Shape::decoded() {
         for index in 0..shape.soft_values() {
             let mut values = vec![0; shape.soft_values()];
             values[index] = i16::MIN;
@@ -52,7 +52,7 @@ fn at_level(shape: Shape, word: &[u8], level: i16) -> Vec<i16> {
 
 fn levels(cases: &mut Cases, shape: Shape) {
     for level in [1, 32_767] {
-        for message in [0, shape.messages() - 1, cases.message(shape)] {
+        for message in ends(shape).into_iter().chain([cases.message(shape)]) {
             cases.soft(shape.h(), shape.m(), &at_level(shape, &word_of(shape, message), level));
         }
     }
