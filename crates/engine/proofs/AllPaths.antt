@@ -11,8 +11,7 @@ use lib.ListN.{length}
 use lib.Pow.{pow-mono, pow-add}
 use Rattle.rules.specs.Shape.{greatestM, phases, pathsInUse, pathBits}
 use Rattle.rules.specs.Label.{labels}
-use Rattle.rules.proofs.Range.{InRange, inShape-range, messageBits-le}
-use Rattle.words.proofs.Labels.{phases-pow}
+use Rattle.rules.proofs.Range.{InRange, inShape-range, messageBits-le, phases-pow}
 use Rattle.engine.specs.Tables.{area, AllPaths, OnePath}
 
 -- all labels are those of the paths in use

@@ -7,6 +7,7 @@ mod scan;
 mod stages;
 mod turning;
 
+use kinds::MessageNumber;
 use shape::GREATEST_M;
 use shape::PLACES;
 use standing::Standing;
@@ -154,7 +155,8 @@ fn own_word(h: u32, m: u32, label: u64, word: &mut [u8])
     requires { ⌜ (inShape h m ≡ true) × (label < labels h m) × (length (now word) ≡ carriers m) ⌝ }
     ensures { λ _. ⌜ now (word .exit) ≡ listBelow (carriers m) (wordAt h m label) ⌝ }
 {
-    encoder::encode(h, m, shape::message_of(h, m, label), word);
+    let message: MessageNumber = shape::message_of(h, m, label);
+    encoder::encode(h, m, message, word);
 }
 
 // The first table, at the front of x.

@@ -11,16 +11,14 @@ use lib.Pow.{pow-mono}
 use denote.Ref.{now}
 use borrow.Author.Count.{below-none, below-more}
 use borrow.Author.Needs.{needs}
-use Rattle.rules.specs.Shape.{phases, pathsInUse, messages}
+use Rattle.rules.specs.Shape.{phases, pathsInUse, messages, mostCoefficientBits, mostBits}
 use Rattle.rules.specs.Label.{labels, messageOf}
 use Rattle.rules.specs.Word.{wordOf}
 use Rattle.rules.specs.Table.{messageWith}
 use Rattle.rules.specs.Refusal.{orNoWord}
-use Rattle.rules.proofs.Range.{InRange, inShape-range, coefficientBits-le, messageBits-le}
-use Rattle.rules.proofs.Range.{mostCoefficientBits, mostBits}
-use Rattle.words.proofs.Labels.{phases-pow}
+use Rattle.rules.proofs.Range.{InRange, inShape-range, coefficientBits-le, messageBits-le, phases-pow}
 use Rattle.rules.proofs.Messages.{messageOf-lt}
-use Rattle.words.proofs.Powers.{power-labels, power-uses}
+use Rattle.shape.proofs.Powers.{power-labels, power-uses}
 use Rattle.reader.specs.Shown.{labelWith}
 use Rattle.reader.proofs.ShownLaws.{labelWith-zero, labelWith-next, labelWith-lt, messageWith-some}
 use Rattle.reader.proofs.ShownLaws.{messageWith-none}
