@@ -1,6 +1,6 @@
 -- Bounds that a shape in range gives.
 -- In order: the ranges of h and m; w; the bits of a message number; the phases, their powers and half of them, the
--- carriers, the paths in use.
+-- carriers, the paths in use, the messages.
 -- Assumes nothing.
 use Prim.Native.Nat.{ℕ, zero, suc, _+_, _-_, _*_, _/_, _^_, _≤_, _<_}
 use native.Mathlib.Nat.{mul-le-mul, mul-zero, mul-suc, pow-zero, pow-suc, pow-succ'}
@@ -15,7 +15,8 @@ use borrow.Author.Tests.{leb-true, le-leb}
 use Rattle.range.specs.Below.{allBelow}
 use Rattle.range.proofs.Tests.{and-left, and-right, and-of, allBelow-at}
 use Rattle.rules.specs.Shape.{greatestH, greatestM, pathBits, inH, inM, inShape, phases, carriers, pathsInUse}
-use Rattle.rules.specs.Shape.{pathWidths, messageBits, halfTurn, mostPathBits, mostCoefficientBits, mostBits}
+use Rattle.rules.specs.Shape.{pathWidths, messageBits, messages, halfTurn}
+use Rattle.rules.specs.Shape.{mostPathBits, mostCoefficientBits, mostBits}
 
 pub record InRange (h m : ℕ) : Type 0 where
   pub h-least : 1 ≤ h
@@ -111,3 +112,6 @@ carriers-most h m r = pow-mono (r .m-most)
 
 pub pathsInUse-most : (m : ℕ) → pathsInUse m ≤ 2 ^ mostPathBits
 pathsInUse-most m = pow-mono {i = pathBits m} {j = mostPathBits} (pathBits-le m)
+
+pub messages-most : (h m : ℕ) → InRange h m → messages h m ≤ 2 ^ mostBits
+messages-most h m r = pow-mono {i = messageBits h m} {j = mostBits} (messageBits-le h m r)

@@ -10,7 +10,7 @@ use borrow.Author.Needs.{needs}
 use borrow.Author.Tests.{not-true, not-false, leb-false}
 use Rattle.range.specs.Below.{listBelow}
 use Rattle.rules.specs.Shape.{inShape, carriers, halfTurn}
-use Rattle.rules.specs.Label.{labels}
+use Rattle.rules.specs.Label.{labels, labelOf}
 use Rattle.rules.specs.Table.{badMessage}
 use Rattle.shape.proofs.Powers.{power-carriers, takes-tells}
 use Rattle.rules.proofs.Messages.{labelOf-lt}
@@ -87,12 +87,16 @@ taken : (c : tie.Else3) → let args = start (shape-test (length-test c)) .args 
     badMessage (args .h) (args .m) (args .message .0) ≡ false
 taken c = judged (c .before) ∙ c .if3 .left
 
--- so the label is one of the shape
+-- so the label is the message's, and one of the shape
+label-is : (c : tie.After-label-of) → let args = start (shape-test (length-test (c .before))) .args in
+    c .label-of .result ≡ labelOf (args .h) (args .m) (args .message .0)
+label-is c = c .label-of .ensures .0 (shaped (shape-test (length-test (c .before))))
+
 label-lt : (c : tie.After-label-of) → let args = start (shape-test (length-test (c .before))) .args in
     c .label-of .result < labels (args .h) (args .m)
 label-lt c =
     let args = start (shape-test (length-test (c .before))) .args in
-    subst (λ (l : ℕ). l < labels (args .h) (args .m)) (sym (c .label-of .ensures))
+    subst (λ (l : ℕ). l < labels (args .h) (args .m)) (sym (label-is c))
     (labelOf-lt (args .h) (args .m) (args .message .0) (leb-false _ _ (taken (c .before))))
 
 fill-requires : tie.Need-fill-requires
@@ -115,7 +119,7 @@ returns-4 c =
     (taken (at-label .before)))
     (at-fill .fill .ensures
     ∙ ap (λ (l : ℕ). listBelow (carriers (args .m)) (liftedAt (args .h) (args .m) l (args .lift * halfTurn (args .h))))
-    (at-label .label-of .ensures))
+    (label-is at-label))
 
 pub send-spec : {M : Type 1} → statement M
 send-spec =
