@@ -38,7 +38,7 @@ use Rattle.totals.proofs.Answers.{soft-greatest, hard-nearest}
 use Rattle.standing.specs.declared.Standing.{Standing}
 use Rattle.standing.specs.Lead.{tiedOf}
 use Rattle.standing.proofs.Leading.{lead-best}
-use Rattle.engine.specs.Search.{mostGain, accepts, searched}
+use Rattle.engine.specs.Search.{greatestDecoded, mostGain, accepts, searched}
 use Rattle.engine.proofs.Accepting.{accepts-small, searched-is}
 
 -- st has the best total of the gains f, and it is no greater than b at every place
@@ -116,7 +116,7 @@ module _ (h m : ℕ) (ok : inShape h m ≡ true) (two : h ≤ 2) (st : Standing)
     matched = search-leads h m (halfTurn h) (hardGain h w) (hardGain-le h w) ok two top st q
       where
         top : halfTurn h ≤ mostGain
-        top = pow-mono {i = h - 1} {j = 25} (omega (arith, two))
+        top = omega (arith, pow-mono {i = h - 1} {j = greatestDecoded - 1} (omega (arith, two)))
 
     pub hard-best-le : st .best ≤ carriers m * halfTurn h
     hard-best-le = matched .1

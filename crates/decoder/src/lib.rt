@@ -2,6 +2,7 @@
 // Each call turns what it received into a table of gains, natural numbers that are greater where a symbol fits better
 // (totals, specs/Gains.antt), and has the engine find the label of greatest total. Nothing is negated, and a soft value
 // is widened before anything is added to it. Equals go to the earliest label. Contracts cite specs/Told.antt.
+use engine::GREATEST_DECODED;
 use kinds::MessageNumber;
 use kinds::Refusal;
 use kinds::Search;
@@ -23,8 +24,8 @@ ghost use Rattle.totals.specs.Gains.{raiseBy, raised, softGain, hardGain, nearn
 ghost use Rattle.standing.specs.Lead.{tiedOf};
 ghost use Rattle.decoder.specs.Told.{loudestTold, closestTold, Hears, Matches};
 
-// The greatest table of gains: a run of places for each of four symbols.
-const GAINS: usize = PLACES * 4;
+// The greatest table of gains: a run of places for each symbol of the most phases that are decoded.
+const GAINS: usize = PLACES << GREATEST_DECODED;
 
 // What a soft value is raised by, so that it is never below zero: the size of the least of them.
 const RAISE_BY: i32 = 32768;

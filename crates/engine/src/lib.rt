@@ -27,7 +27,7 @@ ghost use Rattle.engine.specs.Search.{mostGain, mostLabels, accepts, sea
 ghost use Rattle.engine.specs.Tables.{Rooms, Runs, WordFits, Climbing, AllPaths, OnePath, tableIn};
 
 // The greatest h that the tables have room for, and the room: 2 q^m numbers.
-const GREATEST_DECODED: u32 = 2;
+pub const GREATEST_DECODED: u32 = 2;
 
 const AREA: usize = 2 << (GREATEST_DECODED * GREATEST_M);
 

@@ -4,8 +4,8 @@ use shape::STEPS;
 // How many paths are in use, of every m together.
 pub(super) const USED: usize = 43;
 
-// In dictionary order, those of m = 2 first, then m = 3, 4 and 5. The steps of a path are the digits of its number to
-// base 8, the first step the highest.
+// In dictionary order, those of m = 2 first, then those of m = 3, and so on. The steps of a path are the digits of its
+// number to base 8, the first step the highest.
 pub(super) const PATHS: [u32; USED] = [
     0o12,
     0o123,
@@ -52,5 +52,5 @@ pub(super) const PATHS: [u32; USED] = [
     0o23154,
 ];
 
-// Where the paths of m = 2, 3, 4 and 5 begin.
+// Where the paths of m = 2, 3, .. begin.
 pub(super) const STARTS: [usize; STEPS - 1] = [0, 1, 3, 11];
