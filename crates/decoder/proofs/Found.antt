@@ -7,7 +7,7 @@ use Prim.Native.Nat.{ℕ, _-_, _*_, _^_, _≤_, _<_, zero-le}
 use native.Mathlib.Nat.{mul-le-mul, le-refl}
 use native.Mathlib.Decide.{decLt}
 use native.Mathlib.Omega.{arith}
-use mathlib.Core.Path.{_≡_, sym, _∙_, ap, subst}
+use mathlib.Core.Path.{_≡_, sym, _∙_}
 use mathlib.Core.Bool.{Bool, true}
 use mathlib.Core.List.{List}
 use lib.Dec.{lit≤}
@@ -20,13 +20,11 @@ use Rattle.range.specs.Signed.{entry}
 use Rattle.range.proofs.Lists.{length-listBelow, listBelow-at}
 use Rattle.range.proofs.Sums.{sumBelow-le}
 use Rattle.range.proofs.Tests.{allBelow-of}
-use Rattle.rules.specs.Shape.{inShape, phases, halfTurn, carriers, messages}
+use Rattle.rules.specs.Shape.{inShape, phases, halfTurn, carriers}
 use Rattle.rules.specs.Label.{labels, labelOf, messageOf}
 use Rattle.rules.specs.Word.{symbolAt}
 use Rattle.rules.specs.Best.{Best}
-use Rattle.rules.specs.Outcome.{allowed}
-use Rattle.rules.specs.Refusal.{softRefusal, hardRefusal}
-use Rattle.rules.specs.Decoding.{Loud, Near}
+use Rattle.rules.specs.Decoding.{Answer, BestAnswer, Loud, Near}
 use Rattle.rules.proofs.Range.{inShape-range, carriers-most}
 use Rattle.rules.proofs.Silence.{labels-two}
 use Rattle.rules.proofs.Messages.{labelOf-messageOf, messageOf-lt}
@@ -34,17 +32,21 @@ use Rattle.totals.specs.Totals.{totalOf}
 use Rattle.totals.specs.Gains.{raiseBy, softGain, hardGain, tableOf}
 use Rattle.totals.proofs.SoftTotals.{softGain-le}
 use Rattle.totals.proofs.HardTotals.{hardGain-le}
-use Rattle.totals.proofs.Answers.{soft-greatest, hard-nearest}
+use Rattle.totals.proofs.Answers.{loud-of-totals, near-of-totals}
 use Rattle.standing.specs.declared.Standing.{Standing}
-use Rattle.standing.specs.Lead.{tiedOf}
-use Rattle.standing.proofs.Leading.{lead-best}
+use Rattle.standing.specs.Lead.{lead, tiedOf}
+use Rattle.standing.proofs.Leading.{lead-best, lead-tied}
 use Rattle.engine.specs.Search.{greatestDecoded, mostGain, accepts, searched}
 use Rattle.engine.proofs.Accepting.{accepts-small, searched-is}
 
--- st has the best total of the gains f, and it is no greater than b at every place
+-- what the search answers, with the best total as its value
+abbrev answerOf : ℕ → ℕ → Standing → Answer ℕ
+answerOf h m st = record { message = messageOf h m (st .label); value = st .best; tied = tiedOf st }
+
+-- st's answer is right of the totals of the gains f, and its total is no greater than b at every place
 abbrev Leads : ℕ → ℕ → ℕ → (ℕ → ℕ → ℕ) → Standing → Type 0
 Leads h m b f st =
-    Best (labels h m) _≤_ (totalOf h m (tableOf h m f)) (st .label) (st .best) (tiedOf st) × (st .best ≤ carriers m * b)
+    BestAnswer h m _≤_ (totalOf h m (tableOf h m f)) (answerOf h m st) × (st .best ≤ carriers m * b)
 
 module _ (h m b : ℕ) (f : ℕ → ℕ → ℕ) (low : (i s : ℕ) → f i s ≤ b) where
   table-le : (e : ℕ) → getD (tableOf h m f) e 0 ≤ b
@@ -73,23 +75,24 @@ module _ (h m b : ℕ) (f : ℕ → ℕ → ℕ) (low : (i s : ℕ) → f i s �
   search-leads : inShape h m ≡ true → h ≤ 2 → b ≤ mostGain → (st : Standing) → st ≡ searched h m (tableOf h m f) →
       Leads h m b f st
   search-leads e two top st q =
-      let t : List ℕ = tableOf h m f in
-      let two-labels : 2 ≤ labels h m = labels-two h m (inShape-range h m e .h-least) in
-      let best = subst (λ (s : Standing). Best (labels h m) _≤_ (totalOf h m t) (s .label) (s .best) (tiedOf s))
-      (sym (q ∙ searched-is h m t (table-accepted e two top))) (lead-best (totalOf h m t) (labels h m) two-labels) in
-      (best, omega (arith, best .attained, total-le (st .label)))
+      let n : ℕ = labels h m in
+      let total : ℕ → ℕ = totalOf h m (tableOf h m f) in
+      let many : 2 ≤ n = labels-two h m (inShape-range h m e .h-least) in
+      let is : st ≡ lead total n = q ∙ searched-is h m (tableOf h m f) (table-accepted e two top) in
+      let best : Best n _≤_ total (st .label) (st .best) = rw is (lead-best total n (omega arith)) in
+      let back : labelOf h m (messageOf h m (st .label)) ≡ st .label = labelOf-messageOf h m (st .label) in (
+        record {
+          inside = messageOf-lt h m (st .label) (best .inside);
+          best = rw back best;
+          tie = rw (back, is) (lead-tied total n many);
+        },
+        omega (arith, best .attained, total-le (st .label)),
+      )
 
--- what an answer tells is what the search gave
+-- what is answered is what the search gave
 module _ (h m : ℕ) (ok : inShape h m ≡ true) (two : h ≤ 2) (st : Standing) where
   one : 1 ≤ h
   one = inShape-range h m ok .h-least
-
-  module _ (g : ℕ) (e : g ≡ messageOf h m (st .label)) where
-    message-inside : st .label < labels h m → g < messages h m
-    message-inside l = rw e (messageOf-lt h m (st .label) l)
-
-    label-back : st .label ≡ labelOf h m g
-    label-back = sym (ap (labelOf h m) e ∙ labelOf-messageOf h m (st .label))
 
   module _ (ys : List ℤ) (small : (k : ℕ) → mag (entry ys k) < raiseBy)
       (q : st ≡ searched h m (tableOf h m (softGain h ys))) where
@@ -100,15 +103,10 @@ module _ (h m : ℕ) (ok : inShape h m ≡ true) (two : h ≤ 2) (st : Standing)
     soft-best-le =
         omega (arith, heard .1, mul-le-mul (carriers-most h m (inShape-range h m ok)) (le-refl (2 * raiseBy)))
 
-    pub soft-found : (g : ℕ) (v : ℤ) (t : Bool) → softRefusal h m ys ≡ allowed → g ≡ messageOf h m (st .label) →
+    pub soft-found : (g : ℕ) (v : ℤ) (t : Bool) → g ≡ messageOf h m (st .label) →
         v ≡ pos (st .best) -ℤ pos (carriers m * raiseBy) → t ≡ tiedOf st →
-        Loud h m ys (record { message = g; correlation = v; tied = t })
-    soft-found g v t taken e p q = record {
-      taken = taken;
-      inside = message-inside g e (heard .0 .inside);
-      greatest = rw (sym (label-back g e), p, q)
-          (soft-greatest h m ys (st .label) (st .best) (tiedOf st) one two small (heard .0));
-    }
+        Loud h m ys (record { message = g; value = v; tied = t })
+    soft-found g v t e p q = rw (e, p, q) (loud-of-totals h m ys (answerOf h m st) one two small (heard .0))
 
   module _ (w : List ℕ) (inside : (i : ℕ) → i < carriers m → symbolAt w i < phases h)
       (q : st ≡ searched h m (tableOf h m (hardGain h w))) where
@@ -121,12 +119,7 @@ module _ (h m : ℕ) (ok : inShape h m ≡ true) (two : h ≤ 2) (st : Standing)
     pub hard-best-le : st .best ≤ carriers m * halfTurn h
     hard-best-le = matched .1
 
-    pub hard-found : (g d : ℕ) (t : Bool) → hardRefusal h m w ≡ allowed → g ≡ messageOf h m (st .label) →
+    pub hard-found : (g d : ℕ) (t : Bool) → g ≡ messageOf h m (st .label) →
         d ≡ carriers m * halfTurn h - st .best → t ≡ tiedOf st →
-        Near h m w (record { message = g; distance = d; tied = t })
-    hard-found g d t taken e p q = record {
-      taken = taken;
-      inside = message-inside g e (matched .0 .inside);
-      nearest = rw (sym (label-back g e), p, q)
-          (hard-nearest h m w (st .label) (st .best) (tiedOf st) one inside (matched .0));
-    }
+        Near h m w (record { message = g; value = d; tied = t })
+    hard-found g d t e p q = rw (e, p, q) (near-of-totals h m w (answerOf h m st) one inside (matched .0))

@@ -2,6 +2,5 @@
 pub mod Casts
 pub mod Tables
 pub mod Values
-pub mod Outcomes
-pub mod Taken
+pub mod Lengths
 pub mod Found

@@ -1,11 +1,14 @@
 // Soft and hard decoding for two and four phases: document 01 "What the receiver hears".
 // Each call turns what it received into a table of gains, natural numbers that are greater where a symbol fits better
 // (totals, specs/Gains.antt), and has the engine find the label of greatest total. Nothing is negated, and a soft value
-// is widened before anything is added to it. Equals go to the earliest label. Contracts cite specs/Told.antt.
+// is widened before anything is added to it. Equals go to the earliest label. The answers, and what the contracts cite
+// of them, stand in the crate answers.
+use answers::Closest;
+use answers::Heard;
+use answers::Loudest;
+use answers::Matched;
 use engine::GREATEST_DECODED;
-use kinds::MessageNumber;
-use kinds::Refusal;
-use kinds::Search;
+use kinds::Judged;
 use shape::PLACES;
 use standing::Standing;
 ghost use Prim.Native.Nat.{ℕ, _+_, _-_, _*_, _^_, _≤_, _<_};
@@ -20,9 +23,9 @@ ghost use Rattle.rules.specs.Label.{messageOf};
 ghost use Rattle.rules.specs.Outcome.{allowed};
 ghost use Rattle.rules.specs.Refusal.{softRefusal, hardRefusal};
 ghost use Rattle.rules.specs.Decoding.{Loud, Near};
+ghost use Rattle.answers.specs.Decoded.{loudestTold, closestTold, Hears, Matches};
 ghost use Rattle.totals.specs.Gains.{raiseBy, raised, softGain, hardGain, nearness, tableOf};
 ghost use Rattle.standing.specs.Lead.{tiedOf};
-ghost use Rattle.decoder.specs.Told.{loudestTold, closestTold, Hears, Matches};
 
 // The greatest table of gains: a run of places for each symbol of the most phases that are decoded.
 const GAINS: usize = PLACES << GREATEST_DECODED;
@@ -30,46 +33,14 @@ const GAINS: usize = PLACES << GREATEST_DECODED;
 // What a soft value is raised by, so that it is never below zero: the size of the least of them.
 const RAISE_BY: i32 = 32768;
 
-// The word of greatest correlation: its message, its correlation, and whether another word has it too.
-pub struct Loudest {
-    pub message: MessageNumber,
-    pub correlation: i32,
-    pub tied: bool,
-}
-
-// The nearest word: its message, its distance, and whether another word has it too.
-pub struct Closest {
-    pub message: MessageNumber,
-    pub distance: u32,
-    pub tied: bool,
-}
-
-// The answer of soft decoding.
-pub enum Heard {
-    Found(Loudest),
-    Refused(Refusal),
-}
-
-// The answer of hard decoding.
-pub enum Matched {
-    Found(Closest),
-    Refused(Refusal),
-}
-
 // The message of greatest correlation with the values, its correlation, and whether another word has it too. Refuses 1
 // a shape out of range, 6 eight phases, 2 values that are not N for two phases and 2N for four. The values are only
 // read.
 pub fn soft(h: u32, m: u32, values: &[i16]) -> Heard
     ensures { λ r. ⌜ Hears h m (now (values .entry)) r ⌝ }
 {
-    if !shape::in_shape(h, m) {
-        return Heard::Refused(Refusal::Shape);
-    }
-    if h == 3 {
-        return Heard::Refused(Refusal::Octary);
-    }
-    if values.len() != shape::power(h - 1 + m) as usize {
-        return Heard::Refused(Refusal::Length);
+    if let Judged::Refused(why) = refusals::soft(h, m, values) {
+        return Heard::Refused(why);
     }
     let mut gains = [0u32; GAINS];
     let n = shape::power(h + m) as usize;
@@ -82,17 +53,8 @@ pub fn soft(h: u32, m: u32, values: &[i16]) -> Heard
 pub fn hard(h: u32, m: u32, word: &[u8]) -> Matched
     ensures { λ r. ⌜ Matches h m (now (word .entry)) r ⌝ }
 {
-    if !shape::in_shape(h, m) {
-        return Matched::Refused(Refusal::Shape);
-    }
-    if h == 3 {
-        return Matched::Refused(Refusal::Octary);
-    }
-    if word.len() != shape::power(m) as usize {
-        return Matched::Refused(Refusal::Length);
-    }
-    if let Search::At(place) = shape::first_bad(shape::power(h), word) {
-        return Matched::Refused(Refusal::Symbol(place));
+    if let Judged::Refused(why) = refusals::hard(h, m, word) {
+        return Matched::Refused(why);
     }
     let mut gains = [0u32; GAINS];
     let n = shape::power(h + m) as usize;

@@ -1,57 +1,25 @@
 -- Laws of the promise of encode and partner.
--- In order: the outcome, refusal by refusal, and back; the promise of a refusal and of a word written; a word said in
--- another way; only one outcome satisfies it; the slice where nothing is refused, and where something is.
+-- In order: the promise of a refusal and of a word written; a word said in another way; only one outcome satisfies it;
+-- the slice where nothing is refused, and where something is.
 -- Assumes nothing.
-use Prim.Native.Nat.{ℕ, _<_}
+use Prim.Native.Nat.{ℕ}
 use mathlib.Core.Path.{_≡_, refl, sym, _∙_, ap, subst}
-use mathlib.Core.Bool.{true, false}
-use mathlib.Core.List.{List, []}
+use mathlib.Core.List.{List}
 use lib.ListN.{length}
-use borrow.Author.Tests.{eq-eqb, eqb-true, ne-eqb, leb-false, not-false}
-use Rattle.rules.specs.Shape.{inShape, carriers, messages}
-use Rattle.rules.specs.Outcome.{Outcome, refuses, allowed, leaves, refuse}
-use Rattle.rules.specs.Table.{badShape, badLength, badMessage}
+use Rattle.rules.specs.Outcome.{Outcome, refuses, allowed, leaves}
 use Rattle.rules.specs.Refusal.{sendRefusal}
-use Rattle.rules.proofs.OutcomeLaws.{gives-not-refuses, refuse-gives}
-use Rattle.kinds.proofs.ToldLaws.{refusalTold-inj}
+use Rattle.rules.proofs.OutcomeLaws.{gives-not-refuses}
+use Rattle.kinds.specs.declared.Refusal.{Refusal}
+use Rattle.kinds.specs.Refusals.{refusalTold}
+use Rattle.kinds.proofs.RefusalLaws.{refusalTold-inj}
 use Rattle.encoder.specs.declared.Written.{Written}
 use Rattle.encoder.specs.declared.Written.the-variants.{Done, Refused}
 use Rattle.encoder.specs.Sent.{writtenTold, Sent}
 
-module _ (h m n g : ℕ) where
-  pub send-shape : inShape h m ≡ false → sendRefusal h m n g ≡ refuses 1 []
-  unfolding sendRefusal
-  send-shape e = rw e
-
-  pub send-length : inShape h m ≡ true → (n ≡ carriers m → ⊥) → sendRefusal h m n g ≡ refuses 2 []
-  unfolding sendRefusal
-  send-length e q = rw (e, ne-eqb n (carriers m) q)
-
-  pub send-message : inShape h m ≡ true → n ≡ carriers m → badMessage h m g ≡ true → sendRefusal h m n g ≡ refuses 4 []
-  unfolding sendRefusal
-  send-message e q b = rw (e, eq-eqb n (carriers m) q, b)
-
-  pub send-allowed : inShape h m ≡ true → n ≡ carriers m → badMessage h m g ≡ false → sendRefusal h m n g ≡ allowed
-  unfolding sendRefusal
-  send-allowed e q b = rw (e, eq-eqb n (carriers m) q, b)
-
-  -- where nothing is refused, no test held
-  pub send-taken : sendRefusal h m n g ≡ allowed → (inShape h m ≡ true) × (n ≡ carriers m) × (g < messages h m)
-  unfolding sendRefusal
-  send-taken e =
-      let l = badLength n (carriers m) in
-      let a = refuse-gives 1 (badShape h m) (refuse 2 l (refuse 4 (badMessage h m g) allowed)) tt e in
-      let b = refuse-gives 2 l (refuse 4 (badMessage h m g) allowed) tt (a .1) in
-      let c = refuse-gives 4 (badMessage h m g) allowed tt (b .1) in
-      (not-false _ (a .0), eqb-true n (carriers m) (not-false _ (b .0)), leb-false (messages h m) g (c .0))
-
 module _ (h m g : ℕ) (word before : List ℕ) where
-  pub sent-refused : (r : Written) (k : ℕ) (v : List ℕ) → sendRefusal h m (length before) g ≡ refuses k v →
-      writtenTold r ≡ refuses k v → Sent h m g word before r before
-  sent-refused r k v e t = record {
-    told = t ∙ sym e;
-    slice = ap (λ (o : Outcome (Unit {0})). leaves o before word) (sym e);
-  }
+  pub sent-refused : (why : Refusal) → refusalTold why ≡ sendRefusal h m (length before) g →
+      Sent h m g word before (Refused why) before
+  sent-refused why e = record { told = e; slice = ap (λ (o : Outcome (Unit {0})). leaves o before word) e }
 
   pub sent-done : (after : List ℕ) → sendRefusal h m (length before) g ≡ allowed → after ≡ word →
       Sent h m g word before Done after

@@ -9,7 +9,7 @@ use mathlib.Core.List.{List}
 use lib.ListN.{length}
 use Rattle.rules.specs.Outcome.{Outcome, allowed, leaves}
 use Rattle.rules.specs.Refusal.{sendRefusal}
-use Rattle.kinds.specs.Told.{refusalTold}
+use Rattle.kinds.specs.Refusals.{refusalTold}
 use Rattle.encoder.specs.declared.Written.{Written}
 use Rattle.encoder.specs.declared.Written.the-variants.{Done, Refused}
 

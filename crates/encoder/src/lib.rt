@@ -1,6 +1,7 @@
 // Encode and partner: document 01 "What a logger may send" and "The partner and the pair check", 001 Corollary 4.
 // Both refuse 1, 2 and 4, in that order, and a refusal writes nothing. The rows of the generator are combined place by
 // place; the partner adds 2^(h-1) of row p(1). Contracts cite specs/Sent.antt, and for the steps specs/Steps.antt.
+use kinds::Judged;
 use kinds::MessageNumber;
 use kinds::PathNumber;
 use kinds::Refusal;
@@ -54,14 +55,8 @@ fn send(h: u32, m: u32, message: MessageNumber, lift: u32, out: &mut [u8]) -> Wr
         (listBelow (carriers m) (liftedAt h m (labelOf h m (message .0)) (lift * halfTurn h)))
         (now (out .entry)) r (now (out .exit)) ⌝ }
 {
-    if !shape::in_shape(h, m) {
-        return Written::Refused(Refusal::Shape);
-    }
-    if out.len() != shape::power(m) as usize {
-        return Written::Refused(Refusal::Length);
-    }
-    if !shape::takes(h, m, message) {
-        return Written::Refused(Refusal::Message);
+    if let Judged::Refused(why) = refusals::send(h, m, out.len(), message) {
+        return Written::Refused(why);
     }
     let label = shape::label_of(h, m, message);
     fill(h, m, label, lift, out);

@@ -2,15 +2,14 @@
 // word with two symbols changed, which is refused in reading and found by hard decoding; then soft values of the word
 // with noise, and soft decoding. Document 01: "What a logger may send", "The partner and the pair check", "What the
 // receiver hears". The word is the last starred one of 01's "Known words" for h = 2 and m = 4.
-use decoder::Closest;
-use decoder::Heard;
-use decoder::Loudest;
-use decoder::Matched;
+use answers::Closest;
+use answers::Heard;
+use answers::Loudest;
+use answers::Matched;
 use encoder::Written;
 use kinds::MessageNumber;
 use kinds::Refusal;
 use pair::Paired;
-use pair::Which;
 use reader::Reading;
 use show::number;
 use show::say;
@@ -86,21 +85,9 @@ fn tell_pair(first: &[u8], second: &[u8]) {
     match pair::check(H, M, first, second) {
         Paired::Yes => say(b"yes"),
         Paired::No => say(b"no"),
-        Paired::Refused(refusal, which) => {
-            tell_refusal(refusal);
-            tell_which(which);
-        }
+        Paired::Refused(refusal) => tell_refusal(refusal),
     }
     say(b"\n");
-}
-
-// The word that a refusal of the pair check speaks of.
-fn tell_which(which: Which) {
-    match which {
-        Which::Either => (),
-        Which::First => say(b" of the first word"),
-        Which::Second => say(b" of the second word"),
-    }
 }
 
 // Reads a word back.
@@ -191,13 +178,6 @@ fn tell_tie(tied: bool) {
 // A refusal by its number and place, and in words.
 fn tell_refusal(refusal: Refusal) {
     show::refusal(refusal);
-    match refusal {
-        Refusal::Shape => say(b": h or m is out of range"),
-        Refusal::Length => say(b": the length is wrong"),
-        Refusal::Symbol(_) => say(b": a symbol is too large"),
-        Refusal::Message => say(b": the message number is too large"),
-        Refusal::NoWord => say(b": no message has this word"),
-        Refusal::Octary => say(b": no decoding for 8 phases"),
-        Refusal::Value(_) => say(b": a value is out of range"),
-    }
+    say(b": ");
+    show::reason(refusal);
 }

@@ -1,2 +1,2 @@
--- Laws of what answers say.
-pub mod ToldLaws
+-- Laws of what refusals tell.
+pub mod RefusalLaws

@@ -8,12 +8,12 @@ use crate::parse::MOST;
 use crate::parse::ends;
 use crate::parse::take_name;
 use crate::parse::take_small;
+use kinds::Judged;
 use show::area;
 use show::number;
 use show::refusal;
 use show::say;
 use show::signed;
-use transform::Judged;
 
 enum Call {
     Transform,
@@ -58,7 +58,7 @@ fn tell(call: Call, m: u32, first: &mut [i32], second: &mut [i32]) {
 fn tell_call(call: Call, m: u32, first: &mut [i32], second: &mut [i32]) {
     match call {
         Call::Transform => {
-            let judged = transform::refusal(m, first, second);
+            let judged = refusals::transform(m, first, second);
             tell_part(judged, transform::transform(m, first, second));
         }
         Call::Run => number(transform::run(m, first, second) as u64),

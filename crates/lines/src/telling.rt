@@ -4,12 +4,11 @@
 //   read                message G | refused K | refused 3 at place P
 //   hard                message G distance D tied | message G distance D not tied | refused K | refused 3 at place P
 //   soft                message G correlation C tied | message G correlation C not tied | refused K
-use decoder::Heard;
-use decoder::Matched;
+use answers::Heard;
+use answers::Matched;
 use encoder::Written;
 use kinds::MessageNumber;
 use pair::Paired;
-use pair::Which;
 use reader::Reading;
 use show::number;
 use show::refusal;
@@ -32,19 +31,7 @@ pub(super) fn tell_paired(answer: Paired) {
     match answer {
         Paired::Yes => say(b"yes"),
         Paired::No => say(b"no"),
-        Paired::Refused(kind, which) => {
-            refusal(kind);
-            tell_which(which);
-        }
-    }
-}
-
-// The word that a refusal speaks of.
-fn tell_which(which: Which) {
-    match which {
-        Which::Either => (),
-        Which::First => say(b" of word 1"),
-        Which::Second => say(b" of word 2"),
+        Paired::Refused(kind) => refusal(kind),
     }
 }
 

@@ -1,8 +1,8 @@
 // The pair check of document 01: whether two words cancel at every shift and phase.
-// `check` refuses what the table says, in its order; each other function counts, or compares counts.
-// What the answer says in the document's terms is in specs/Told.antt, and what is counted in rules, specs/Pair.antt.
+// `check` asks whether the words are refused; each other function counts, or compares counts.
+// What the answer says in the document's terms is in specs/Paired.antt, and what is counted in rules, specs/Pair.antt.
+use kinds::Judged;
 use kinds::Refusal;
-use kinds::Search;
 ghost use Prim.Native.Nat.{ℕ, _≤_};
 ghost use mathlib.Core.Path.{_≡_};
 ghost use lib.ListN.{length};
@@ -10,21 +10,14 @@ ghost use Rattle.rules.specs.Shape.{greatestH, carriers};
 ghost use Rattle.rules.specs.Pair.{phaseCount, pairCount, golayPair, phasesAgree};
 ghost use Rattle.rules.specs.Word.{symbolAt};
 ghost use Rattle.rules.specs.Refusal.{pairOutcome};
-ghost use Rattle.pair.specs.Told.{pairedTold};
+ghost use Rattle.pair.specs.Paired.{pairedTold};
 ghost use Rattle.pair.specs.Words.{Words};
-
-// Which word a refusal speaks of: kinds 1 and 2 speak of either, kind 3 of one.
-pub enum Which {
-    Either,
-    First,
-    Second,
-}
 
 // What the pair check answers.
 pub enum Paired {
     Yes,
     No,
-    Refused(Refusal, Which),
+    Refused(Refusal),
 }
 
 // Whether two words are a Golay pair: at every shift from 1 to N - 1 and every phase the counts of 01 agree. Refuses 1
@@ -33,22 +26,8 @@ pub enum Paired {
 pub fn check(h: u32, m: u32, first: &[u8], second: &[u8]) -> Paired
     ensures { λ r. ⌜ pairedTold r ≡ pairOutcome h m (now (first .entry)) (now (second .entry)) ⌝ }
 {
-    if !shape::in_shape(h, m) {
-        return Paired::Refused(Refusal::Shape, Which::Either);
-    }
-    let q = shape::power(h);
-    let n = shape::power(m) as usize;
-    if first.len() != n {
-        return Paired::Refused(Refusal::Length, Which::Either);
-    }
-    if second.len() != n {
-        return Paired::Refused(Refusal::Length, Which::Either);
-    }
-    if let Search::At(place) = shape::first_bad(q, first) {
-        return Paired::Refused(Refusal::Symbol(place), Which::First);
-    }
-    if let Search::At(place) = shape::first_bad(q, second) {
-        return Paired::Refused(Refusal::Symbol(place), Which::Second);
+    if let Judged::Refused(why) = refusals::pair(h, m, first, second) {
+        return Paired::Refused(why);
     }
     if all_shifts(h, first, second) {
         Paired::Yes

@@ -1,7 +1,7 @@
 -- Natural numbers and whole numbers a constant apart. In order: sums of natural numbers as whole numbers; two
 -- differences added; sums of differences, and of a constant; sums whose summands are a constant apart; taking the
--- constant away again; equal differences; two numbers, both raised by one constant: they are equal exactly where the
--- raised ones are, and in order where those are.
+-- constant away, and putting it back; equal differences; two numbers, both raised by one constant: they are equal
+-- exactly where the raised ones are, and in order where those are.
 -- Not here: other laws of sums (Sums, SumsSigned).  Assumes nothing.
 use Prim.Native.Nat.{ℕ, zero, suc, _+_, _-_, _*_, _≤_, _<_}
 use native.Mathlib.Omega.{arith}
@@ -9,7 +9,8 @@ use mathlib.Core.Path.{_≡_, refl, sym, _∙_, ap}
 use mathlib.Core.Bool.{Bool, true, false, cond}
 use mathlib.Core.Logic.{_↔_}
 use lib.Dec.{T, ltb, le→leb}
-use lib.IntN.{ℤ, pos, negsuc, negℤ, natAbs, _+ℤ_, _-ℤ_, +ℤ-assoc, +ℤ-comm, +ℤ-negℤ-cancel, negℤ-+ℤ}
+use lib.IntN.{ℤ, pos, negsuc, negℤ, natAbs, _+ℤ_, _-ℤ_, +ℤ-assoc, +ℤ-comm, +ℤ-negℤ-cancel}
+use lib.IntN.{negℤ-+ℤ, -ℤ-+ℤ-cancel}
 use lib.Signed.{leZ}
 use borrow.Author.Tests.{ltb-true, ltb-false}
 use Rattle.range.specs.Below.{sumBelow}
@@ -51,6 +52,9 @@ sumℤ-less n c f d e =
 
 pub shift-back : (a b : ℕ) (z : ℤ) → pos a ≡ pos b +ℤ z → z ≡ pos a -ℤ pos b
 shift-back a b z e = rw (e, +ℤ-comm (pos b) z) (sym (+ℤ-negℤ-cancel z (pos b)))
+
+pub shift-difference : (a b : ℕ) → pos a ≡ pos b +ℤ (pos a -ℤ pos b)
+shift-difference a b = sym (+ℤ-comm (pos b) (pos a -ℤ pos b) ∙ -ℤ-+ℤ-cancel (pos a) (pos b))
 
 pub differences-equal : (p q r s : ℕ) → p + s ≡ r + q → pos p -ℤ pos q ≡ pos r -ℤ pos s
 differences-equal p q r s e =

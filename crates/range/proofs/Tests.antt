@@ -57,6 +57,10 @@ pub false-of-not-true : (b : Bool) → (b ≡ true → ⊥) → b ≡ false
 false-of-not-true true h = absurd (h refl)
 false-of-not-true false h = refl
 
+pub true-of-not-false : (b : Bool) → (b ≡ false → ⊥) → b ≡ true
+true-of-not-false true h = refl
+true-of-not-false false h = absurd (h refl)
+
 -- a claim about all below n, and about n
 pub below-suc : (P : ℕ → Type 0) (n : ℕ) → ((k : ℕ) → k < n → P k) → P n → (k : ℕ) → k < suc n → P k
 below-suc P n all last k h = elim (ℕ-discrete k n) [ yes e ↦ subst P (sym e) last | no d ↦ all k (omega arith) ]

@@ -1,3 +1,3 @@
 -- Laws of what the symbols show, and of the answer.
 pub mod ShownLaws
-pub mod Outcomes
+pub mod Unique

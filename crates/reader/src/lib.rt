@@ -1,8 +1,8 @@
 // Word reading: document 01 "What the receiver hears". The coefficients are read off the word, and what is left is
-// compared with the paths in use, so that not every message is tried. Contracts cite specs/Told.antt and Shown.antt.
+// compared with the paths in use, so that not every message is tried. Contracts cite specs/Reading.antt and Shown.antt.
+use kinds::Judged;
 use kinds::MessageNumber;
 use kinds::Refusal;
-use kinds::Search;
 use shape::PLACES;
 ghost use Prim.Native.Nat.{_<_};
 ghost use mathlib.Core.Path.{_≡_};
@@ -13,7 +13,7 @@ ghost use Rattle.rules.specs.Word.{wordOf};
 ghost use Rattle.rules.specs.Table.{messageWith};
 ghost use Rattle.rules.specs.Symbols.{Symbols};
 ghost use Rattle.rules.specs.Refusal.{readOutcome, orNoWord};
-ghost use Rattle.reader.specs.Told.{readingTold};
+ghost use Rattle.reader.specs.Reading.{readingTold};
 ghost use Rattle.reader.specs.Shown.{lowOf};
 
 // The answer of word reading.
@@ -27,14 +27,8 @@ pub enum Reading {
 pub fn read(h: u32, m: u32, word: &[u8]) -> Reading
     ensures { λ r. ⌜ readingTold r ≡ readOutcome h m (now (word .entry)) ⌝ }
 {
-    if !shape::in_shape(h, m) {
-        return Reading::Refused(Refusal::Shape);
-    }
-    if word.len() != shape::power(m) as usize {
-        return Reading::Refused(Refusal::Length);
-    }
-    if let Search::At(place) = shape::first_bad(shape::power(h), word) {
-        return Reading::Refused(Refusal::Symbol(place));
+    if let Judged::Refused(why) = refusals::word(h, m, word) {
+        return Reading::Refused(why);
     }
     search(h, m, word)
 }

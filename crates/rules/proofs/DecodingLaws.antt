@@ -1,44 +1,65 @@
--- Only one outcome is answered by soft decoding, and by hard decoding: rules' Decoding. In order: what is given; the
--- outcome.
--- Not here: laws of Best (BestLaws).  Assumes nothing.
-use Prim.Native.Nat.{ℕ}
+-- Laws of answers: rules' Decoding. In order: only one answer is right; an answer better than every other; an answer
+-- under another measure; only one outcome is answered by soft decoding, and by hard decoding.
+-- Not here: laws of Best and Tied (BestLaws), of outcomes (OutcomeLaws).  Assumes nothing.
+use Prim.Native.Nat.{ℕ, _<_}
 use native.Mathlib.Omega.{arith}
 use mathlib.Core.Path.{_≡_}
+use mathlib.Core.Bool.{false}
 use mathlib.Core.List.{List}
+use mathlib.Core.Logic.{_≢_, _↔_}
 use lib.IntN.{ℤ}
-use Rattle.rules.specs.Shape.{carriers}
-use Rattle.rules.specs.Label.{labels}
-use Rattle.rules.specs.Word.{wordAt, symbolAt}
-use Rattle.rules.specs.Distance.{distance}
+use Rattle.rules.specs.Shape.{messages}
+use Rattle.rules.specs.Label.{labels, labelOf}
+use Rattle.rules.specs.Distance.{distanceTo}
 use Rattle.rules.specs.Soft.{correlation}
 use Rattle.rules.specs.Best.{AtMost, AtLeast}
 use Rattle.rules.specs.Outcome.{Outcome}
 use Rattle.rules.specs.Refusal.{softRefusal, hardRefusal}
-use Rattle.rules.specs.Decoding.{SoftAnswer, HardAnswer, Loud, Near, SoftOutcome, HardOutcome}
-use Rattle.rules.proofs.Messages.{labelOf-inj}
-use Rattle.rules.proofs.BestLaws.{best-unique, atMost-antisymm}
-use Rattle.rules.proofs.OutcomeLaws.{outcome-unique}
+use Rattle.rules.specs.Decoding.{Answer, SoftAnswer, HardAnswer, BestAnswer, Loud, Near, SoftOutcome, HardOutcome}
+use Rattle.rules.proofs.Messages.{labelOf-inj, labelOf-lt}
+use Rattle.rules.proofs.BestLaws.{best-unique, best-alone, best-map, tied-unique, tied-of-alone, tied-map}
+use Rattle.rules.proofs.BestLaws.{atMost-antisymm}
+use Rattle.rules.proofs.OutcomeLaws.{outcomeOf-unique}
 
-module _ (h m : ℕ) (ys : List ℤ) where
-  loud-unique : (a b : SoftAnswer) → Loud h m ys a → Loud h m ys b → a ≡ b
-  loud-unique a b p q =
-      let e = best-unique (labels h m) AtMost (correlation h m ys) atMost-antisymm _ _ (a .correlation)
-      (b .correlation) (a .tied) (b .tied) (p .greatest) (q .greatest) in
-      let g : a .message ≡ b .message = labelOf-inj h m _ _ (e .0) in
-      λ i. record { message = g i; correlation = e .1 i; tied = e .2 i }
+module _ {X : Type 0} (h m : ℕ) (Stands : X → X → Type 0) (value : ℕ → X) where
+  -- only one answer is right, where two values that stand so to each other are equal
+  pub bestAnswer-unique : ((u v : X) → Stands u v → Stands v u → u ≡ v) → (a b : Answer X) →
+      BestAnswer h m Stands value a → BestAnswer h m Stands value b → a ≡ b
+  bestAnswer-unique anti a b p q =
+      let e = best-unique (labels h m) Stands value anti _ _ (a .value) (b .value) (p .best) (q .best) in
+      let t = tied-unique (labels h m) value _ (b .value) (a .tied) (b .tied) (rw (e .0, e .1) at (p .tie)) (q .tie) in
+      let g = labelOf-inj h m (a .message) (b .message) (e .0) in
+      λ i. record { message = g i; value = e .1 i; tied = t i }
 
-  pub softOutcome-unique : (o u : Outcome SoftAnswer) → SoftOutcome h m ys o → SoftOutcome h m ys u → o ≡ u
-  softOutcome-unique =
-      outcome-unique (SoftOutcome h m ys) (softRefusal h m ys) loud-unique (λ a p. p .taken) (λ k v p. p)
+  -- the message of a label that is better than every other is right, and not tied
+  pub bestAnswer-alone : (g : ℕ) → g < messages h m → let l = labelOf h m g in Stands (value l) (value l) →
+      ((k : ℕ) → k < labels h m → k ≢ l → Stands (value k) (value l) × (value k ≢ value l)) →
+      BestAnswer h m Stands value (record { message = g; value = value l; tied = false })
+  bestAnswer-alone g inside self others = record {
+    inside = inside;
+    best = best-alone (labels h m) Stands value (labelOf h m g) (labelOf-lt h m g inside) self others;
+    tie = tied-of-alone (labels h m) value (labelOf h m g) (value (labelOf h m g)) (λ k b ne. others k b ne .1);
+  }
 
-module _ (h m : ℕ) (w : List ℕ) where
-  near-unique : (a b : HardAnswer) → Near h m w a → Near h m w b → a ≡ b
-  near-unique a b p q =
-      let e = best-unique (labels h m) AtLeast (λ k. distance h (carriers m) (symbolAt w) (wordAt h m k))
-      (λ x y s t. omega arith) _ _ (a .distance) (b .distance) (a .tied) (b .tied) (p .nearest) (q .nearest) in
-      let g : a .message ≡ b .message = labelOf-inj h m _ _ (e .0) in
-      λ i. record { message = g i; distance = e .1 i; tied = e .2 i }
+  -- an answer stays right under another measure that keeps how values stand to its own, and which are equal to it
+  pub bestAnswer-map : {Y : Type 0} (Others : Y → Y → Type 0) (other : ℕ → Y) (a : Answer X) (w : Y) →
+      BestAnswer h m Stands value a → ((k : ℕ) → Stands (value k) (a .value) → Others (other k) w) →
+      ((k : ℕ) → (other k ≡ w) ↔ (value k ≡ a .value)) →
+      BestAnswer h m Others other (record { message = a .message; value = w; tied = a .tied })
+  bestAnswer-map Others other a w p order same = let l = labelOf h m (a .message) in record {
+    inside = p .inside;
+    best = best-map (labels h m) Stands value Others other l (a .value) w (p .best) order same;
+    tie = tied-map (labels h m) value l (a .value) other w (a .tied) same (p .tie);
+  }
 
-  pub hardOutcome-unique : (o u : Outcome HardAnswer) → HardOutcome h m w o → HardOutcome h m w u → o ≡ u
-  hardOutcome-unique =
-      outcome-unique (HardOutcome h m w) (hardRefusal h m w) near-unique (λ a p. p .taken) (λ k v p. p)
+pub softOutcome-unique : (h m : ℕ) (ys : List ℤ) (o u : Outcome SoftAnswer) → SoftOutcome h m ys o →
+    SoftOutcome h m ys u → o ≡ u
+softOutcome-unique h m ys =
+    outcomeOf-unique (softRefusal h m ys) (Loud h m ys)
+    (bestAnswer-unique h m AtMost (correlation h m ys) atMost-antisymm)
+
+pub hardOutcome-unique : (h m : ℕ) (w : List ℕ) (o u : Outcome HardAnswer) → HardOutcome h m w o →
+    HardOutcome h m w u → o ≡ u
+hardOutcome-unique h m w =
+    outcomeOf-unique (hardRefusal h m w) (Near h m w)
+    (bestAnswer-unique h m AtLeast (distanceTo h m w) (λ x y s t. omega arith))

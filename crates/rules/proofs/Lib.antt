@@ -7,6 +7,7 @@ pub mod OrderLaws
 pub mod Messages
 pub mod SymbolLaws
 pub mod OutcomeLaws
+pub mod RefusalLaws
 pub mod Turns
 pub mod Differences
 pub mod BestLaws

@@ -1,13 +1,13 @@
 -- Laws of outcomes: rules' Outcome. In order: what is given is not refused, and is one thing; where something is
--- given, no test of the table held, and no place was found; a relation that fixes what is refused and what is given is
--- satisfied by one outcome.  Assumes nothing.
+-- given, no test of the table held, and no place was found; a claim about an outcome, test by test; a test after
+-- others, and two tests of one number; only one outcome is answered.  Assumes nothing.
 use Prim.Native.Nat.{ℕ}
 use native.Mathlib.Omega.{arith}
-use mathlib.Core.Path.{_≡_, refl, sym, _∙_}
-use mathlib.Core.Bool.{Bool, true, false}
-use mathlib.Core.List.{List}
+use mathlib.Core.Path.{_≡_, refl, sym, _∙_, ap}
+use mathlib.Core.Bool.{Bool, true, false, _||_}
+use mathlib.Core.List.{List, [], _∷_}
 use mathlib.Core.Option.{Option, none, some}
-use Rattle.rules.specs.Outcome.{Outcome, gives, refuses, allowed, refuse, refuseAt}
+use Rattle.rules.specs.Outcome.{Outcome, gives, refuses, allowed, andThen, refuse, refuseAt, OutcomeOf}
 
 module _ {A : Type 0} where
   pub gives-not-refuses : {a : A} {k : ℕ} {v : List ℕ} → gives a ≡ refuses k v → ⊥
@@ -25,12 +25,49 @@ module _ {A : Type 0} where
   refuseAt-gives k none more o a e = (refl, e)
   refuseAt-gives k (some i) more o a e = absurd (gives-not-refuses (sym e))
 
--- a relation that says an outcome's refusal is r's, and of what is given that r refuses nothing and that it is alone
-module _ {A : Type 0} (S : Outcome A → Type 0) (r : Outcome (Unit {0}))
-    (alone : (a b : A) → S (gives a) → S (gives b) → a ≡ b) (taken : (a : A) → S (gives a) → r ≡ allowed)
-    (told : (k : ℕ) (v : List ℕ) → S (refuses k v) → r ≡ refuses k v) where
-  pub outcome-unique : (o u : Outcome A) → S o → S u → o ≡ u
-  outcome-unique (gives a) (gives b) p q = let e = alone a b p q in cc
-  outcome-unique (gives a) (refuses k v) p q = absurd (gives-not-refuses (sym (taken a p) ∙ told k v q))
-  outcome-unique (refuses k v) (gives a) p q = absurd (gives-not-refuses (sym (taken a q) ∙ told k v p))
-  outcome-unique (refuses k v) (refuses j w) p q = let e = sym (told k v p) ∙ told j w q in cc
+  -- a claim holds of an outcome where it holds whichever way its first test goes
+  pub refuse-cases : (P : Outcome A → Type 0) (k : ℕ) (t : Bool) (o : Outcome A) →
+      (t ≡ true → P (refuses k [])) → (t ≡ false → P o) → P (refuse k t o)
+  refuse-cases P k true o held passed = held refl
+  refuse-cases P k false o held passed = passed refl
+
+  pub refuseAt-cases : (P : Outcome A → Type 0) (k : ℕ) (f : Option ℕ) (more : List ℕ) (o : Outcome A) →
+      ((i : ℕ) → f ≡ some i → P (refuses k (i ∷ more))) → (f ≡ none → P o) → P (refuseAt k f more o)
+  refuseAt-cases P k (some i) more o found passed = found i refl
+  refuseAt-cases P k none more o found passed = passed refl
+
+  -- a test that comes after others stands behind them
+  pub andThen-refuse : (k : ℕ) (t : Bool) (r : Outcome (Unit {0})) (o : Outcome A) →
+      andThen (refuse k t r) o ≡ refuse k t (andThen r o)
+  andThen-refuse k true r o = refl
+  andThen-refuse k false r o = refl
+
+  pub andThen-refuseAt : (k : ℕ) (f : Option ℕ) (more : List ℕ) (r : Outcome (Unit {0})) (o : Outcome A) →
+      andThen (refuseAt k f more r) o ≡ refuseAt k f more (andThen r o)
+  andThen-refuseAt k (some i) more r o = refl
+  andThen-refuseAt k none more r o = refl
+
+  -- two tests of one number are one test
+  pub refuse-or : (k : ℕ) (s t : Bool) (o : Outcome A) → refuse k (s || t) o ≡ refuse k s (refuse k t o)
+  refuse-or k true t o = refl
+  refuse-or k false t o = refl
+
+  -- what tests refuse is refused, whatever stands behind them
+  pub andThen-refused : {r : Outcome (Unit {0})} {k : ℕ} {v : List ℕ} (o : Outcome A) → refuses k v ≡ r →
+      refuses k v ≡ andThen r o
+  andThen-refused o e = ap (λ (x : Outcome (Unit {0})). andThen x o) e
+
+  -- what is given behind other tests is given where they refuse nothing
+  pub andThen-gives : (r : Outcome (Unit {0})) (o : Outcome A) (a : A) → andThen r o ≡ gives a →
+      (r ≡ allowed) × (o ≡ gives a)
+  andThen-gives (gives tt) o a e = (refl, e)
+  andThen-gives (refuses k v) o a e = absurd (gives-not-refuses (sym e))
+
+-- only one outcome is answered, where only one answer is right
+module _ {A : Type 0} (r : Outcome (Unit {0})) (Right : A → Type 0) where
+  pub outcomeOf-unique : ((a b : A) → Right a → Right b → a ≡ b) → (o u : Outcome A) → OutcomeOf r Right o →
+      OutcomeOf r Right u → o ≡ u
+  outcomeOf-unique alone (gives a) (gives b) p q = let e = alone a b (p .right) (q .right) in cc
+  outcomeOf-unique alone (gives a) (refuses k v) p q = absurd (gives-not-refuses (sym (p .taken) ∙ q))
+  outcomeOf-unique alone (refuses k v) (gives a) p q = absurd (gives-not-refuses (sym (q .taken) ∙ p))
+  outcomeOf-unique alone (refuses k v) (refuses j w) p q = let e = sym p ∙ q in cc

@@ -1,11 +1,11 @@
 -- Soft values that are all zero: every correlation is zero, for two and four phases and every m.
 -- In order: a zero value is heard as zero; zeros sum to zero; the correlation; two labels at least; message 0's label;
--- the best of equals.
+-- the answer, the best of equals.
 -- Assumes nothing.
 use Prim.Native.Nat.{ℕ, zero, suc, _+_, _*_, _<_, _≤_}
-use native.Mathlib.Nat.{mul-zero, pow-le-pow-right, lt-of-lt-of-le, le-refl, mul-le-mul}
+use native.Mathlib.Nat.{mul-zero, pow-le-pow-right, lt-of-lt-of-le, le-refl, mul-le-mul, suc-ne-zero, not-suc-le-zero}
 use native.Mathlib.Omega.{arith}
-use mathlib.Core.Path.{_≡_, refl, _∙_, ap}
+use mathlib.Core.Path.{_≡_, refl, sym, _∙_, ap}
 use mathlib.Core.Bool.{Bool, true, false, cond}
 use mathlib.Core.List.{List}
 use lib.Dec.{eqb, lit≤}
@@ -18,8 +18,8 @@ use Rattle.rules.specs.Shape.{carriers, messageBits}
 use Rattle.rules.specs.Label.{labels, labelOf}
 use Rattle.rules.specs.Word.{wordAt}
 use Rattle.rules.specs.Soft.{heard, heardTwo, heardFour, correlation, softLength}
-use Rattle.rules.specs.Best.{AtMost, Greatest}
-use Rattle.rules.proofs.BestLaws.{best-of-equal}
+use Rattle.rules.specs.Decoding.{Loud}
+use Rattle.rules.proofs.BestLaws.{tied-of-another}
 
 zeros : ℕ → List ℤ
 zeros n = replicate n (pos 0)
@@ -71,9 +71,20 @@ unfolding labelOf
 labelOf-zero h m = refl
 
 -- 01: any soft shape, all zeros
-pub greatest-of-zeros : (h m : ℕ) → 1 ≤ h →
-    Greatest h m (replicate (softLength h m) (pos 0)) (labelOf h m 0) (pos 0) true
+pub loud-of-zeros : (h m : ℕ) → 1 ≤ h →
+    Loud h m (replicate (softLength h m) (pos 0)) (record { message = 0; value = pos 0; tied = true })
 unfolding zeros
-greatest-of-zeros h m one =
-    rw (labelOf-zero h m) (best-of-equal (labels h m) AtMost (correlation h m (zeros (softLength h m))) (pos 0)
-    (labels-two h m one) (λ l. correlation-zero h m (softLength h m) l) tt)
+loud-of-zeros h m one =
+    let two : 1 < labels h m = labels-two h m one in
+    let value : ℕ → ℤ = correlation h m (zeros (softLength h m)) in
+    let all : (l : ℕ) → value l ≡ pos 0 = correlation-zero h m (softLength h m) in
+    record {
+      inside = omega arith;
+      best = rw (labelOf-zero h m) (record {
+        inside = omega arith;
+        attained = sym (all 0);
+        best = λ k _. rw (all k) tt;
+        earliest = λ k b. absurd (not-suc-le-zero b);
+      });
+      tie = rw (labelOf-zero h m) (tied-of-another (labels h m) value 0 (pos 0) 1 two (suc-ne-zero 0) (all 1));
+    }

@@ -1,48 +1,51 @@
 -- What soft and hard decoding answer: 01 "What the receiver hears", "When the receiver says no".
--- Defines:  SoftAnswer, HardAnswer    what is answered: the message number, its correlation or its distance, tied
---           Loud h m ys a             soft values ys are not refused, and a is right of them: its message is one, and
---                                     that message's label has the greatest correlation, and its tie
---           Near h m w a              the same of symbols w: the label's word is the nearest
+-- Defines:  Answer X                  what is answered: the message number, its value, tied
+--           SoftAnswer, HardAnswer    with a correlation as value, with a distance
+--           BestAnswer h m Stands value a    a is right of these values of the labels: its message is one, and that
+--                                     message's label is the best, with a's value, and tied as a says
+--           Loud h m ys a             a is right of soft values ys: the best has the greatest correlation
+--           Near h m w a              a is right of symbols w: the best has the least distance
 --           SoftOutcome h m ys o      o is what soft decoding of ys answers
 --           HardOutcome h m w o       o is what hard decoding of w answers
 -- That the message is one follows from its label for the plain bits of today; it is said so that other bits leave it
 -- true.
 -- Laws: proofs/DecodingLaws.antt (only one outcome is answered).  Assumes nothing: these are definitions.
 use Prim.Native.Nat.{ℕ, _<_}
-use mathlib.Core.Path.{_≡_}
 use mathlib.Core.Bool.{Bool}
 use mathlib.Core.List.{List}
 use lib.IntN.{ℤ}
 use Rattle.rules.specs.Shape.{messages}
-use Rattle.rules.specs.Label.{labelOf}
-use Rattle.rules.specs.Best.{Greatest, Nearest}
-use Rattle.rules.specs.Outcome.{Outcome, gives, refuses, allowed}
+use Rattle.rules.specs.Label.{labels, labelOf}
+use Rattle.rules.specs.Distance.{distanceTo}
+use Rattle.rules.specs.Soft.{correlation}
+use Rattle.rules.specs.Best.{AtMost, AtLeast, Best, Tied}
+use Rattle.rules.specs.Outcome.{Outcome, OutcomeOf}
 use Rattle.rules.specs.Refusal.{softRefusal, hardRefusal}
 
-pub record SoftAnswer : Type 0 where
+pub record Answer (X : Type 0) : Type 0 where
   pub message : ℕ
-  pub correlation : ℤ
+  pub value : X
   pub tied : Bool
 
-pub record HardAnswer : Type 0 where
-  pub message : ℕ
-  pub distance : ℕ
-  pub tied : Bool
+abbrev pub SoftAnswer : Type 0
+SoftAnswer = Answer ℤ
 
-pub record Loud (h m : ℕ) (ys : List ℤ) (a : SoftAnswer) : Type 0 where
-  pub taken : softRefusal h m ys ≡ allowed
-  pub inside : a .message < messages h m
-  pub greatest : Greatest h m ys (labelOf h m (a .message)) (a .correlation) (a .tied)
+abbrev pub HardAnswer : Type 0
+HardAnswer = Answer ℕ
 
-pub record Near (h m : ℕ) (w : List ℕ) (a : HardAnswer) : Type 0 where
-  pub taken : hardRefusal h m w ≡ allowed
+pub record BestAnswer {X : Type 0} (h m : ℕ) (Stands : X → X → Type 0) (value : ℕ → X) (a : Answer X) : Type 0 where
   pub inside : a .message < messages h m
-  pub nearest : Nearest h m w (labelOf h m (a .message)) (a .distance) (a .tied)
+  pub best : Best (labels h m) Stands value (labelOf h m (a .message)) (a .value)
+  pub tie : Tied (labels h m) value (labelOf h m (a .message)) (a .value) (a .tied)
+
+abbrev pub Loud : ℕ → ℕ → List ℤ → SoftAnswer → Type 0
+Loud h m ys a = BestAnswer h m AtMost (correlation h m ys) a
+
+abbrev pub Near : ℕ → ℕ → List ℕ → HardAnswer → Type 0
+Near h m w a = BestAnswer h m AtLeast (distanceTo h m w) a
 
 abbrev pub SoftOutcome : ℕ → ℕ → List ℤ → Outcome SoftAnswer → Type 0
-SoftOutcome h m ys (gives a) = Loud h m ys a
-SoftOutcome h m ys (refuses k carried) = softRefusal h m ys ≡ refuses k carried
+SoftOutcome h m ys o = OutcomeOf (softRefusal h m ys) (Loud h m ys) o
 
 abbrev pub HardOutcome : ℕ → ℕ → List ℕ → Outcome HardAnswer → Type 0
-HardOutcome h m w (gives a) = Near h m w a
-HardOutcome h m w (refuses k carried) = hardRefusal h m w ≡ refuses k carried
+HardOutcome h m w o = OutcomeOf (hardRefusal h m w) (Near h m w) o

@@ -74,13 +74,13 @@ Right (refused4 h m g) = sendRefusal h m (carriers m) g ≡ refuses 4 []
 Right (outsideM m) = ((h : ℕ) → Refused1 h m) × ((y : List ℤ) (n : ℕ) → transformRefusal m y n ≡ refuses 1 [])
 Right (outsideH h) = (m : ℕ) → Refused1 h m
 Right (soft h m ys a others) =
-    SoftOutcome h m ys (gives a) × (reaching h m ys (a .message) (a .correlation) ≡ others)
+    SoftOutcome h m ys (gives a) × (reaching h m ys (a .message) (a .value) ≡ others)
 Right (hard h m w a) = HardOutcome h m w (gives a)
 Right (unread h m w) = readOutcome h m w ≡ refuses 5 []
 Right silence =
     (h m : ℕ) → inShape h m ≡ true → h ≤ 2 →
     SoftOutcome h m (replicate (softLength h m) (pos 0))
-    (gives (record { message = 0; correlation = pos 0; tied = true }))
+    (gives (record { message = 0; value = pos 0; tied = true }))
 
 abbrev pub AllRight : List Case → Type 0
 AllRight [] = Unit {0}
@@ -113,9 +113,9 @@ starred =
     ∷ outsideM 6
     ∷ outsideH 0
     ∷ outsideH 4
-    ∷ soft 1 2 fourLeast (record { message = 1; correlation = pos 65536; tied = true }) (3 ∷ 5 ∷ 6 ∷ [])
+    ∷ soft 1 2 fourLeast (record { message = 1; value = pos 65536; tied = true }) (3 ∷ 5 ∷ 6 ∷ [])
     ∷ word 1 2 1 (1 ∷ 1 ∷ 1 ∷ 0 ∷ [])
     ∷ silence
-    ∷ hard 1 2 (1 ∷ 1 ∷ 1 ∷ 1 ∷ []) (record { message = 1; distance = 1; tied = true })
+    ∷ hard 1 2 (1 ∷ 1 ∷ 1 ∷ 1 ∷ []) (record { message = 1; value = 1; tied = true })
     ∷ unread 1 2 (1 ∷ 1 ∷ 1 ∷ 1 ∷ [])
     ∷ []

@@ -1,18 +1,14 @@
-// The tests of document 01's table and the numbers that a shape gives, as code.
+// The ranges of h and m, and the numbers that a shape gives, as code.
 // No function here has a requires: each says what it gives for every number that it takes.
 // The greatest h, the greatest m and the table w stand here alone; their definitions are in rules, specs/Shape.antt.
 use kinds::MessageNumber;
-use kinds::Place;
-use kinds::Search;
 ghost use Prim.Native.Nat.{_^_, min};
 ghost use mathlib.Core.Path.{_≡_};
-ghost use mathlib.Core.Bool.{true, false, not, cond, _&&_};
+ghost use mathlib.Core.Bool.{true, false, cond};
 ghost use lib.Dec.{ltb};
 ghost use Rattle.rules.specs.Shape.{pathBits, inM, inShape};
 ghost use Rattle.rules.specs.Label.{labelOf, messageOf};
 ghost use Rattle.rules.specs.Pair.{minus};
-ghost use Rattle.rules.specs.Table.{badMessage, firstBad};
-ghost use Rattle.kinds.specs.Told.{searchTold};
 
 pub const GREATEST_H: u32 = 3;
 
@@ -72,18 +68,6 @@ pub fn path_bits(m: u32) -> u32
     if at < STEPS - 1 { PATH_BITS[at] } else { 0 }
 }
 
-// Whether the shape is in range and the message number needs no more than its bits.
-pub fn takes(h: u32, m: u32, message: MessageNumber) -> bool
-    ensures { λ r. ⌜ r ≡ (inShape h m && not (badMessage h m (message .0))) ⌝ }
-{
-    if !in_shape(h, m) {
-        return false;
-    }
-    let g = message.0;
-    let limit = power(path_bits(m) + h * (m + 1));
-    g < limit
-}
-
 // The label number of a message number, and back, where the shape is in range; else the number itself. Today they are
 // the same number.
 pub fn label_of(h: u32, m: u32, message: MessageNumber) -> u64
@@ -128,18 +112,4 @@ fn wide(x: u8) -> u64
     ensures { λ y. ⌜ y ≡ x ⌝ }
 {
     x as u64
-}
-
-// The first symbol of a word that is q or more.
-pub fn first_bad(q: u64, word: &[u8]) -> Search
-    ensures { λ r. ⌜ searchTold r ≡ firstBad q (now (word .entry)) ⌝ }
-{
-    let mut i = 0;
-    while i < word.len() {
-        if q <= word[i] as u64 {
-            return Search::At(Place(i));
-        }
-        i += 1;
-    }
-    Search::Nowhere
 }

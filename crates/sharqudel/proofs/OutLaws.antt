@@ -11,20 +11,16 @@ use lib.IntN.{ℤ}
 use lib.ListN.{length, getD}
 use Rattle.rules.specs.Outcome.{Outcome, gives, allowed, leaves}
 use Rattle.rules.specs.Refusal.{softRefusal, hardRefusal, transformRefusal}
-use Rattle.rules.specs.Decoding.{SoftAnswer, HardAnswer, Loud, Near}
+use Rattle.rules.specs.Decoding.{SoftAnswer, HardAnswer, SoftOutcome, HardOutcome}
 use Rattle.kinds.specs.declared.Refusal.{Refusal}
-use Rattle.kinds.specs.Told.{refusalSays, refusalTold, telling}
+use Rattle.kinds.specs.Refusals.{refusalNumber, refusalCarries, refusalTold}
 use Rattle.encoder.specs.declared.Written.{Written}
 use Rattle.encoder.specs.Sent.{writtenTold, Sent}
-use Rattle.pair.specs.declared.Which.{Which}
-use Rattle.pair.specs.Told.{wordTold}
 use Rattle.transform.specs.Told.{Ran}
 use Rattle.transform.proofs.Parts.{ran-refused}
 use Rattle.sharqudel.specs.Crossing.{kindOf, Tells, areaOf}
 use Rattle.sharqudel.specs.Out.{SentOut, CheckedOut, ReadOut, SoftOut, HardOut, JudgedOut, TransformedOut}
 use Rattle.sharqudel.proofs.CrossingLaws.{kindOf-cong, areaOf-is}
-use Rattle.sharqudel.proofs.Carried.{Listed, listed-carries}
-use Rattle.sharqudel.proofs.Numbers.{refusalSays-apart}
 
 pub sentOut-of-sent : {h m g : ℕ} {word d d′ : List ℕ} {r : ℕ} (w : Written) → Sent h m g word d w d′ →
     r ≡ kindOf (writtenTold w) → SentOut h m g word d r d′
@@ -36,13 +32,11 @@ module _ {o : Outcome Bool} {b₀ : Bool} {p₀ w₀ : ℕ} where
       subst (λ (x : Outcome Bool). CheckedOut x 0 b₀ b p₀ p₀ w₀ w₀) e
       (record { number = refl; pair = refl; place = refl; which = refl })
 
-  pub checkedOut-refused : {r p w : ℕ} (why : Refusal) (word : Which) → Listed 2 o →
-      telling (wordTold word) (refusalTold why) ≡ o → Tells why r p₀ p → w ≡ getD (wordTold word) 0 w₀ →
-      CheckedOut o r b₀ b₀ p₀ p w₀ w
-  checkedOut-refused {r} {p} {w} why word l e t n =
-      let apart = refusalSays-apart why (wordTold word) (listed-carries (subst (Listed 2) (sym e) l)) p₀ w₀ in
+  pub checkedOut-refused : {r p w : ℕ} (why : Refusal) → refusalTold why ≡ o → Tells why r p₀ p →
+      w ≡ getD (refusalCarries why) 1 w₀ → CheckedOut o r b₀ b₀ p₀ p w₀ w
+  checkedOut-refused {r} {p} {w} why e t n =
       subst (λ (x : Outcome Bool). CheckedOut x r b₀ b₀ p₀ p w₀ w) e
-      (record { number = t .number; pair = refl; place = t .place ∙ sym (apart .0); which = n ∙ sym (apart .1) })
+      (record { number = t .number; pair = refl; place = t .place; which = n })
 
 module _ {o : Outcome ℕ} {g₀ p₀ : ℕ} where
   pub readOut-given : {g : ℕ} → gives g ≡ o → ReadOut o 0 g₀ g p₀ p₀
@@ -55,8 +49,8 @@ module _ {o : Outcome ℕ} {g₀ p₀ : ℕ} where
       (record { number = t .number; message = refl; place = t .place })
 
 module _ {h m : ℕ} {ys : List ℤ} {g₀ : ℕ} {v₀ : ℤ} {t₀ : Bool} where
-  pub softOut-given : {a : SoftAnswer} → Loud h m ys a →
-      SoftOut h m ys 0 g₀ (a .message) v₀ (a .correlation) t₀ (a .tied)
+  pub softOut-given : {a : SoftAnswer} → SoftOutcome h m ys (gives a) →
+      SoftOut h m ys 0 g₀ (a .message) v₀ (a .value) t₀ (a .tied)
   softOut-given {a} p = record {
     outcome = gives a;
     heard = p;
@@ -66,7 +60,7 @@ module _ {h m : ℕ} {ys : List ℤ} {g₀ : ℕ} {v₀ : ℤ} {t₀ : Bool} whe
     tied = refl;
   }
 
-  pub softOut-refused : {r : ℕ} (why : Refusal) → softRefusal h m ys ≡ refusalTold why → r ≡ refusalSays why .0 →
+  pub softOut-refused : {r : ℕ} (why : Refusal) → softRefusal h m ys ≡ refusalTold why → r ≡ refusalNumber why →
       SoftOut h m ys r g₀ g₀ v₀ v₀ t₀ t₀
   softOut-refused why e n = record {
     outcome = refusalTold why;
@@ -78,8 +72,8 @@ module _ {h m : ℕ} {ys : List ℤ} {g₀ : ℕ} {v₀ : ℤ} {t₀ : Bool} whe
   }
 
 module _ {h m : ℕ} {w : List ℕ} {g₀ d₀ : ℕ} {t₀ : Bool} {p₀ : ℕ} where
-  pub hardOut-given : {a : HardAnswer} → Near h m w a →
-      HardOut h m w 0 g₀ (a .message) d₀ (a .distance) t₀ (a .tied) p₀ p₀
+  pub hardOut-given : {a : HardAnswer} → HardOutcome h m w (gives a) →
+      HardOut h m w 0 g₀ (a .message) d₀ (a .value) t₀ (a .tied) p₀ p₀
   hardOut-given {a} p = record {
     outcome = gives a;
     matched = p;
@@ -124,7 +118,7 @@ module _ (m : ℕ) (a b : List ℤ) (n₀ p₀ : ℕ) where
   pub transformedOut-refused : {r p : ℕ} (why : Refusal) → refusalTold why ≡ transformRefusal m a (length b) →
       Tells why r p₀ p → TransformedOut m a b r n₀ n₀ p₀ p a b
   transformedOut-refused why e t =
-      let kept = ran-refused m a b (refusalSays why .0) (refusalSays why .1) (sym e) in
+      let kept = ran-refused m a b (refusalNumber why) (refusalCarries why) (sym e) in
       record {
         told = judgedOut-refused why e t;
         area = ap (λ (x : Outcome (Unit {0})). leaves x n₀ (areaOf m)) e;

@@ -38,7 +38,7 @@ softOut-unique {h} {m} {ys} {g₀ = g₀} {v₀ = v₀} {t₀ = t₀} p q =
     let e = softOutcome-unique h m ys (p .outcome) (q .outcome) (p .heard) (q .heard) in (
       p .number ∙ kindOf-cong e ∙ sym (q .number),
       p .message ∙ givenOr-cong e (λ a. a .message) g₀ ∙ sym (q .message),
-      p .correlation ∙ givenOr-cong e (λ a. a .correlation) v₀ ∙ sym (q .correlation),
+      p .correlation ∙ givenOr-cong e (λ a. a .value) v₀ ∙ sym (q .correlation),
       p .tied ∙ givenOr-cong e (λ a. a .tied) t₀ ∙ sym (q .tied),
     )
 
@@ -49,7 +49,7 @@ hardOut-unique {h} {m} {word} {g₀ = g₀} {d₀ = d₀} {t₀ = t₀} {p₀ = 
     let e = hardOutcome-unique h m word (p .outcome) (q .outcome) (p .matched) (q .matched) in (
       p .number ∙ kindOf-cong e ∙ sym (q .number),
       p .message ∙ givenOr-cong e (λ a. a .message) g₀ ∙ sym (q .message),
-      p .distance ∙ givenOr-cong e (λ a. a .distance) d₀ ∙ sym (q .distance),
+      p .distance ∙ givenOr-cong e (λ a. a .value) d₀ ∙ sym (q .distance),
       p .tied ∙ givenOr-cong e (λ a. a .tied) t₀ ∙ sym (q .tied),
       p .place ∙ carriedOr-cong e 0 p₀ ∙ sym (q .place),
     )

@@ -15,7 +15,7 @@ use lib.ListN.{getD}
 use Rattle.rules.specs.Outcome.{Outcome, gives, refuses}
 use Rattle.rules.specs.Areas.{inFirst}
 use Rattle.kinds.specs.declared.Refusal.{Refusal}
-use Rattle.kinds.specs.Told.{refusalSays}
+use Rattle.kinds.specs.Refusals.{refusalNumber, refusalCarries}
 
 abbrev pub kindOf : {A : Type 0} → Outcome A → ℕ
 kindOf (gives a) = 0
@@ -30,8 +30,8 @@ carriedOr (gives a) i old = old
 carriedOr (refuses k carried) i old = getD carried i old
 
 pub record Tells (why : Refusal) (r p₀ p : ℕ) : Type 0 where
-  pub number : r ≡ refusalSays why .0
-  pub place : p ≡ getD (refusalSays why .1) 0 p₀
+  pub number : r ≡ refusalNumber why
+  pub place : p ≡ getD (refusalCarries why) 0 p₀
 
 abbrev pub areaOf : ℕ → ℕ
 areaOf m = cond (inFirst m) 1 2

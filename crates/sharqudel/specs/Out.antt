@@ -43,7 +43,7 @@ pub record SoftOut (h m : ℕ) (ys : List ℤ) (r g₀ g : ℕ) (v₀ v : ℤ) (
   pub heard : SoftOutcome h m ys outcome
   pub number : r ≡ kindOf outcome
   pub message : g ≡ givenOr outcome (λ a. a .message) g₀
-  pub correlation : v ≡ givenOr outcome (λ a. a .correlation) v₀
+  pub correlation : v ≡ givenOr outcome (λ a. a .value) v₀
   pub tied : t ≡ givenOr outcome (λ a. a .tied) t₀
 
 pub record HardOut (h m : ℕ) (w : List ℕ) (r g₀ g d₀ d : ℕ) (t₀ t : Bool) (p₀ p : ℕ) : Type 0 where
@@ -51,7 +51,7 @@ pub record HardOut (h m : ℕ) (w : List ℕ) (r g₀ g d₀ d : ℕ) (t₀ t : 
   pub matched : HardOutcome h m w outcome
   pub number : r ≡ kindOf outcome
   pub message : g ≡ givenOr outcome (λ a. a .message) g₀
-  pub distance : d ≡ givenOr outcome (λ a. a .distance) d₀
+  pub distance : d ≡ givenOr outcome (λ a. a .value) d₀
   pub tied : t ≡ givenOr outcome (λ a. a .tied) t₀
   pub place : p ≡ carriedOr outcome 0 p₀
 

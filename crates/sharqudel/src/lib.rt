@@ -5,22 +5,20 @@
 // which word. A cell that an answer has nothing for stays as it was.
 // Each call hands on to one of the crates below and takes its answer apart. Contracts cite specs/Out.antt and
 // Crossing.antt.
-use decoder::Heard;
-use decoder::Matched;
+use answers::Heard;
+use answers::Matched;
 use encoder::Written;
+use kinds::Judged;
 use kinds::MessageNumber;
 use kinds::Refusal;
 use pair::Paired;
-use pair::Which;
 use reader::Reading;
-use transform::Judged;
 ghost use mathlib.Core.Path.{_≡_};
 ghost use lib.ListN.{length, getD};
 ghost use Rattle.rules.specs.Word.{wordOf, partnerOf};
 ghost use Rattle.rules.specs.Refusal.{pairOutcome, readOutcome, transformRefusal};
-ghost use Rattle.kinds.specs.Told.{refusalSays};
+ghost use Rattle.kinds.specs.Refusals.{refusalCarries};
 ghost use Rattle.encoder.specs.Sent.{writtenTold};
-ghost use Rattle.pair.specs.Told.{wordTold};
 ghost use Rattle.sharqudel.specs.Crossing.{kindOf, Tells};
 ghost use Rattle.sharqudel.specs.Out.{SentOut, CheckedOut, ReadOut, SoftOut, HardOut, JudgedOut, TransformedOut};
 
@@ -65,8 +63,8 @@ pub extern "C" fn sharqudel_check(
             *pair = false;
             0
         }
-        Paired::Refused(why, word) => {
-            name(word, which);
+        Paired::Refused(why) => {
+            name(why, which);
             tell(why, place)
         }
     }
@@ -117,7 +115,7 @@ pub extern "C" fn sharqudel_soft(
             *tied = found.tied;
             0
         }
-        Heard::Refused(why) => number(why),
+        Heard::Refused(why) => kinds::number(why),
     }
 }
 
@@ -157,7 +155,7 @@ pub extern "C" fn sharqudel_refusal(m: u32, first: &[i32], second: &[i32], place
     ensures { λ r. ⌜ JudgedOut (transformRefusal m (now (first .entry)) (length (now (second .entry)))) r
         (now (place .entry)) (now (place .exit)) ⌝ }
 {
-    match transform::refusal(m, first, second) {
+    match refusals::transform(m, first, second) {
         Judged::Allowed => 0,
         Judged::Refused(why) => tell(why, place),
     }
@@ -179,7 +177,7 @@ pub extern "C" fn sharqudel_transform(
         (now (area .entry)) (now (area .exit)) (now (place .entry)) (now (place .exit))
         (now (first .exit)) (now (second .exit)) ⌝ }
 {
-    match transform::refusal(m, first, second) {
+    match refusals::transform(m, first, second) {
         Judged::Allowed => {
             transform::run(m, first, second);
             *area = 1 + m % 2;
@@ -195,7 +193,7 @@ fn written(answer: Written) -> u32
 {
     match answer {
         Written::Done => 0,
-        Written::Refused(why) => number(why),
+        Written::Refused(why) => kinds::number(why),
     }
 }
 
@@ -204,46 +202,25 @@ fn tell(why: Refusal, place: &mut usize) -> u32
     ensures { λ r. ⌜ Tells why r (now (place .entry)) (now (place .exit)) ⌝ }
 {
     locate(why, place);
-    number(why)
-}
-
-// The number of a refusal in the table of 01.
-fn number(why: Refusal) -> u32
-    ensures { λ r. ⌜ r ≡ refusalSays why .0 ⌝ }
-{
-    match why {
-        Refusal::Shape => 1,
-        Refusal::Length => 2,
-        Refusal::Symbol(_) => 3,
-        Refusal::Message => 4,
-        Refusal::NoWord => 5,
-        Refusal::Octary => 6,
-        Refusal::Value(_) => 7,
-    }
+    kinds::number(why)
 }
 
 // The place that a refusal carries, where it carries one, into the cell.
 fn locate(why: Refusal, place: &mut usize)
-    ensures { λ _. ⌜ now (place .exit) ≡ getD (refusalSays why .1) 0 (now (place .entry)) ⌝ }
+    ensures { λ _. ⌜ now (place .exit) ≡ getD (refusalCarries why) 0 (now (place .entry)) ⌝ }
 {
-    match why {
-        Refusal::Shape => {}
-        Refusal::Length => {}
-        Refusal::Symbol(at) => *place = at.0,
-        Refusal::Message => {}
-        Refusal::NoWord => {}
-        Refusal::Octary => {}
-        Refusal::Value(at) => *place = at.0,
+    let carried = kinds::carries(why);
+    if 0 < carried.count {
+        *place = carried.first;
     }
 }
 
 // The number of the word that a refusal speaks of, where it speaks of one, into the cell.
-fn name(word: Which, which: &mut u32)
-    ensures { λ _. ⌜ now (which .exit) ≡ getD (wordTold word) 0 (now (which .entry)) ⌝ }
+fn name(why: Refusal, which: &mut u32)
+    ensures { λ _. ⌜ now (which .exit) ≡ getD (refusalCarries why) 1 (now (which .entry)) ⌝ }
 {
-    match word {
-        Which::Either => {}
-        Which::First => *which = 1,
-        Which::Second => *which = 2,
+    let carried = kinds::carries(why);
+    if 1 < carried.count {
+        *which = carried.second;
     }
 }

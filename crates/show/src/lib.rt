@@ -1,6 +1,5 @@
 // Writes text, numbers, words, areas, soft values and refusals to standard output, for the programs. No contract can
 // speak of what is written; each function is proved to stay within its slice and to end.
-use kinds::Place;
 use kinds::Refusal;
 use libc::STDOUT_FILENO;
 
@@ -83,26 +82,31 @@ fn symbol(x: u8) {
     }
 }
 
-// A refusal by its number in the table of 01, with its place where it carries one.
-pub fn refusal(kind: Refusal) {
-    match kind {
-        Refusal::Shape => say(b"refused 1"),
-        Refusal::Length => say(b"refused 2"),
-        Refusal::Symbol(at) => {
-            say(b"refused 3");
-            place(at);
-        }
-        Refusal::Message => say(b"refused 4"),
-        Refusal::NoWord => say(b"refused 5"),
-        Refusal::Octary => say(b"refused 6"),
-        Refusal::Value(at) => {
-            say(b"refused 7");
-            place(at);
-        }
+// A refusal by its number in the table of 01, with its place and its word where it carries them.
+pub fn refusal(why: Refusal) {
+    say(b"refused ");
+    number(kinds::number(why) as u64);
+    let carried = kinds::carries(why);
+    if 0 < carried.count {
+        say(b" at place ");
+        number(carried.first as u64);
+    }
+    if 1 < carried.count {
+        say(b" of word ");
+        number(carried.second as u64);
     }
 }
 
-fn place(at: Place) {
-    say(b" at place ");
-    number(at.0 as u64);
+// A refusal in words.
+pub fn reason(why: Refusal) {
+    match kinds::number(why) {
+        1 => say(b"h or m is out of range"),
+        2 => say(b"wrong slice length for this shape"),
+        3 => say(b"a symbol is too large"),
+        4 => say(b"message number too large for this shape"),
+        5 => say(b"no message has this word"),
+        6 => say(b"no decoding for 8 phases"),
+        7 => say(b"a value is out of range"),
+        _ => (),
+    }
 }

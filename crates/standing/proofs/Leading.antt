@@ -1,17 +1,17 @@
 -- What the standing says of the labels gone through: the best, the earliest that has it, and the second best. In order:
 -- one more label, in the three cases of better; the first label; after all of them;
--- the standing is rules' Best, so that going through the labels in their order is enough.
+-- the standing is rules' Best and Tied, so that going through the labels in their order is enough.
 -- Not here: stretches of labels (Lead).  Assumes nothing.
 use Prim.Native.Nat.{ℕ, zero, suc, _≤_, _<_, zero-le}
 use native.Mathlib.Nat.{zero-add, le-refl, not-suc-le-zero}
 use native.Mathlib.Decide.{decLe, ℕ-discrete}
 use native.Mathlib.Omega.{arith}
 use mathlib.Core.Path.{_≡_, refl, sym, _∙_, subst}
-use mathlib.Core.Bool.{true, Bool-set}
-use mathlib.Core.Logic.{_≢_, _⊎_, inl, inr, ∥∥₁-elim}
+use mathlib.Core.Bool.{true}
+use mathlib.Core.Logic.{_≢_, _⊎_, inl, inr}
 use borrow.Author.Tests.{eqb-true, eq-eqb}
 use Rattle.range.proofs.Tests.{below-suc}
-use Rattle.rules.specs.Best.{Best}
+use Rattle.rules.specs.Best.{Best, Tied}
 use Rattle.standing.specs.declared.Standing.{Standing}
 use Rattle.standing.specs.Lead.{better, nobody, leadFrom, lead, tiedOf}
 use Rattle.standing.proofs.Passing.{better-kept, better-second, better-best}
@@ -133,18 +133,21 @@ module _ (n : ℕ) (f : ℕ → ℕ) (st : Standing) (p : Leading n f st) where
   leading-tied (k, l, d, e) =
       eq-eqb (st .best) (st .second) (omega (arith, p .others k l d, p .ordered))
 
-  leading-is-best : 2 ≤ n → Best n _≤_ f (st .label) (st .best) (tiedOf st)
-  leading-is-best two = record {
+  leading-is-best : Best n _≤_ f (st .label) (st .best)
+  leading-is-best = record {
     inside = p .inside;
     attained = p .attained;
     best = p .most;
     earliest = λ k l e. omega (arith, p .earliest k l);
-    tie = (
-      (λ t. ∣ leading-another two (eqb-true (st .best) (st .second) t) ∣₁),
-      (λ t. ∥∥₁-elim t (Bool-set (tiedOf st) true) leading-tied),
-    );
   }
 
-pub lead-best : (f : ℕ → ℕ) (n : ℕ) → 2 ≤ n → Best n _≤_ f (lead f n .label) (lead f n .best) (tiedOf (lead f n))
-lead-best f zero two = absurd (not-suc-le-zero two)
-lead-best f (suc n) two = leading-is-best (suc n) f (lead f (suc n)) (lead-leading f n) two
+  leading-is-tied : 2 ≤ n → Tied n f (st .label) (st .best) (tiedOf st)
+  leading-is-tied two = (λ t. leading-another two (eqb-true (st .best) (st .second) t), leading-tied)
+
+pub lead-best : (f : ℕ → ℕ) (n : ℕ) → 1 ≤ n → Best n _≤_ f (lead f n .label) (lead f n .best)
+lead-best f zero one = absurd (not-suc-le-zero one)
+lead-best f (suc n) one = leading-is-best (suc n) f (lead f (suc n)) (lead-leading f n)
+
+pub lead-tied : (f : ℕ → ℕ) (n : ℕ) → 2 ≤ n → Tied n f (lead f n .label) (lead f n .best) (tiedOf (lead f n))
+lead-tied f zero two = absurd (not-suc-le-zero two)
+lead-tied f (suc n) two = leading-is-tied (suc n) f (lead f (suc n)) (lead-leading f n) two

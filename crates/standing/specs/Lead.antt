@@ -4,7 +4,8 @@
 --           leadFrom l f n st     after the n values f 0, .., f (n - 1) of the labels from l on
 --           lead f n              after the values of the labels below n
 --           tiedOf st             whether the second best is as good as the best
--- Laws: proofs/Leading.antt (the standing after all labels is rules' Best).  Assumes nothing: these are definitions.
+-- Laws: proofs/Leading.antt (the standing after all labels is rules' Best and Tied).
+-- Assumes nothing: these are definitions.
 use Prim.Native.Nat.{ℕ, zero, suc, _+_}
 use mathlib.Core.Bool.{Bool, cond}
 use lib.Dec.{leb, eqb}

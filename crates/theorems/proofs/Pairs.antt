@@ -31,10 +31,10 @@ use Rattle.golay.proofs.LabelPairs.{golayPair-word-partner}
 use Rattle.golay.proofs.Envelopes.{envelopePower-together}
 use Rattle.pair.specs.declared.Paired.{Paired}
 use Rattle.pair.specs.declared.Paired.the-variants.{Yes, No}
-use Rattle.pair.specs.Told.{pairedTold}
+use Rattle.pair.specs.Paired.{pairedTold}
 use Rattle.pair.proofs.Pairs.{golayPair-iff, golayPair-cong, golayPair-self}
-use Rattle.pair.proofs.Outcomes.{pair-given}
-use Rattle.pair.proofs.Told.{pairedTold-inj}
+use Rattle.pair.proofs.Given.{pair-given}
+use Rattle.pair.proofs.Unique.{pairedTold-inj}
 use Rattle.theorems.specs.Names.{word, partner, Encodes, Partners}
 use Rattle.theorems.proofs.Slices.{wordOf-symbols, partnerOf-symbols, done-shape, done-message, done-word}
 use Rattle.theorems.proofs.PairRows.{tested-iff, tested-false}

@@ -30,11 +30,12 @@ use Rattle.spectrum.proofs.Entries.{stages-spectrum}
 use Rattle.distances.proofs.Apart.{hamming-apart, lee-apart}
 use Rattle.distances.proofs.Inject.{unused-not-wordOf}
 use Rattle.encoder.proofs.SentLaws.{sent-unique}
-use Rattle.pair.proofs.Told.{paired-unique}
-use Rattle.reader.proofs.Outcomes.{reading-unique}
-use Rattle.transform.proofs.Unique.{judged-unique, ran-unique, handed-unique, atLast-unique}
-use Rattle.decoder.specs.Told.{heardTold, matchedTold}
-use Rattle.decoder.proofs.Outcomes.{hears-unique, matches-unique, hears-found, matches-found}
+use Rattle.pair.proofs.Unique.{paired-unique}
+use Rattle.reader.proofs.Unique.{reading-unique}
+use Rattle.refusals.proofs.Unique.{judged-unique}
+use Rattle.transform.proofs.Unique.{ran-unique, handed-unique, atLast-unique}
+use Rattle.answers.specs.Decoded.{heardTold, matchedTold}
+use Rattle.answers.proofs.Unique.{hears-unique, matches-unique, hears-found, matches-found}
 use Rattle.theorems.specs.Rows.{SendRow, PairRow, ReadRow, TransformRow, read-5, read-gives}
 use Rattle.theorems.specs.Demand1.{Demand1}
 use Rattle.theorems.specs.Demand2.{Demand2}
@@ -98,7 +99,7 @@ demand1 = record {
   read-one = reading-unique;
   soft-one = hears-unique;
   hard-one = matches-unique;
-  question-one = λ m a b. judged-unique m a (length b);
+  question-one = λ m a b. judged-unique (transformRefusal m a (length b));
   run-one = λ m a b n k a′ b′ c′ d′. ran-unique;
   part-one = λ m x y r s. handed-unique;
   areas-one = atLast-unique;
@@ -146,8 +147,10 @@ demand2 = record {
   no-iff-not-cancel = λ h m w v r a b e. no-iff-not-cancel h m w v r a b e;
   self-not-pair = self-not-pair;
   self-no = self-no;
-  soft-greatest = λ h m ys a hears. hears .greatest;
-  hard-nearest = λ h m w a matches. matches .nearest;
+  soft-greatest = λ h m ys a hears. hears .right .best;
+  hard-nearest = λ h m w a matches. matches .right .best;
+  soft-tied = λ h m ys a hears. hears .right .tie;
+  hard-tied = λ h m w a matches. matches .right .tie;
 }
 
 demand3 : Demand3

@@ -10,7 +10,7 @@ use mathlib.Core.Bool.{true, false}
 use mathlib.Core.List.{List, [], _∷_, flatMap}
 use mathlib.Core.Logic.{_≢_}
 use lib.Dec.{lit<}
-use lib.IntN.{pos}
+use lib.IntN.{ℤ, pos}
 use Rattle.range.specs.Below.{sumBelow, countBelow, firstBelow, listBelow}
 use Rattle.rules.specs.Shape.{pathBits, inShape, phases, carriers, messages}
 use Rattle.rules.specs.Place.{digit}
@@ -22,26 +22,27 @@ use Rattle.rules.specs.Soft.{clean}
 use Rattle.rules.specs.Outcome.{gives}
 use Rattle.rules.specs.Table.{badSymbol}
 use Rattle.rules.specs.Refusal.{readOutcome}
-use Rattle.rules.specs.Decoding.{SoftAnswer, HardAnswer, Loud, Near}
+use Rattle.rules.specs.Decoding.{Loud, Near}
 use Rattle.rules.proofs.Range.{InRange, inShape-range, range-inM}
 use Rattle.rules.proofs.SymbolLaws.{wordAt-lt, symbols-of-none}
 use Rattle.rules.proofs.DecodingLaws.{softOutcome-unique}
 use Rattle.signals.proofs.Metric.{distance-zero-of-agree, distance-comm, distance-triangle}
-use Rattle.signals.proofs.Noiseless.{length-clean, greatest-of-clean}
+use Rattle.signals.proofs.Damage.{near-of-damage}
+use Rattle.signals.proofs.Noiseless.{length-clean, loud-of-clean}
+use Rattle.rules.proofs.RefusalLaws.{soft-allowed}
 use Rattle.rules.proofs.Messages.{labelOf-lt}
 use Rattle.words.proofs.Forms.{wordOf-at, wordOf-lt}
 use Rattle.distances.proofs.Apart.{distance-apart}
 use Rattle.reader.specs.declared.Reading.{Reading}
-use Rattle.reader.specs.Told.{readingTold}
-use Rattle.decoder.specs.declared.Heard.{Heard}
-use Rattle.decoder.specs.declared.Matched.{Matched}
-use Rattle.decoder.specs.Told.{heardTold, matchedTold, Hears, Matches}
-use Rattle.decoder.proofs.Outcomes.{soft-allowed}
+use Rattle.reader.specs.Reading.{readingTold}
+use Rattle.answers.specs.declared.Heard.{Heard}
+use Rattle.answers.specs.declared.Matched.{Matched}
+use Rattle.answers.specs.Decoded.{heardTold, matchedTold, Hears, Matches}
 use Rattle.theorems.specs.Names.{word, Encodes}
 use Rattle.theorems.specs.Rows.{read-gives}
 use Rattle.theorems.proofs.Slices.{wordOf-symbols, done-shape, done-message, done-word}
 use Rattle.theorems.proofs.Rows.{read-only}
-use Rattle.theorems.proofs.Damage.{matched-of-near, near-of-damage, damage-two}
+use Rattle.theorems.proofs.Damage.{matched-of-near, damage-two}
 
 -- a word as it was written
 module _ (h m g : ℕ) (shape : inShape h m ≡ true) (inside : g < messages h m) where
@@ -77,35 +78,33 @@ module _ (h m g : ℕ) (shape : inShape h m ≡ true) (inside : g < messages h m
             (λ i _. wordAt-lt h m k i),
       )
 
-  sent-near : h ≤ 2 → Near h m sent (record { message = g; distance = 0; tied = false })
-  sent-near two =
-      subst (λ (d : ℕ). Near h m sent (record { message = g; distance = d; tied = false })) sent-same
-      (near-of-damage h m g sent two (wordOf-symbols h m g shape) inside (λ k b n. rw sent-same (sent-apart k b n)))
+  sent-near : Near h m sent (record { message = g; value = 0; tied = false })
+  sent-near =
+      subst (λ (d : ℕ). Near h m sent (record { message = g; value = d; tied = false })) sent-same
+      (near-of-damage h m sent g inside (wordOf-lt h m g) (λ k b n. rw sent-same (sent-apart k b n)))
 
   sent-loud : (a : ℕ) → h ≤ 2 → 1 ≤ a →
-      Loud h m (clean h m a sent) (record { message = g; correlation = pos (N * a); tied = false })
-  sent-loud a two some = record {
-    taken = soft-allowed h m (clean h m a sent) shape (λ e. omega (arith, e)) (length-clean h m a sent);
-    inside = inside;
-    greatest = greatest-of-clean h m a sent (labelOf h m g) (range .h-least) two some (labelOf-lt h m g inside)
-        (wordOf-at h m g) sent-far;
-  }
+      Loud h m (clean h m a sent) (record { message = g; value = pos (N * a); tied = false })
+  sent-loud a two some = loud-of-clean h m a sent g (range .h-least) two some inside (wordOf-at h m g) sent-far
 
 pub hard-back : (h m g : ℕ) (d w : List ℕ) (t : Matched) → h ≤ 2 → Encodes h m g d w → Matches h m w t →
-    matchedTold t ≡ gives (record { message = g; distance = 0; tied = false })
+    matchedTold t ≡ gives (record { message = g; value = 0; tied = false })
 hard-back h m g d w t two s matches =
-    let a : HardAnswer = record { message = g; distance = 0; tied = false } in
-    matched-of-near h m w a t (subst (λ (v : List ℕ). Near h m v a) (sym (done-word s))
-    (sent-near h m g (done-shape s) (done-message s) two)) matches
+    matched-of-near h m (wordOf h m g) (record { message = g; value = 0; tied = false }) t two
+    (wordOf-symbols h m g (done-shape s)) (sent-near h m g (done-shape s) (done-message s))
+    (rw (done-word s) at matches)
 
 pub soft-back : (h m g a : ℕ) (d w : List ℕ) (t : Heard) → h ≤ 2 → 1 ≤ a → Encodes h m g d w →
     Hears h m (clean h m a w) t →
-    heardTold t ≡ gives (record { message = g; correlation = pos (carriers m * a); tied = false })
+    heardTold t ≡ gives (record { message = g; value = pos (carriers m * a); tied = false })
 soft-back h m g a d w t two some s hears =
-    let found : SoftAnswer = record { message = g; correlation = pos (carriers m * a); tied = false } in
-    softOutcome-unique h m (clean h m a w) (heardTold t) (gives found) hears
-    (subst (λ (v : List ℕ). Loud h m (clean h m a v) found) (sym (done-word s))
-    (sent-loud h m g (done-shape s) (done-message s) a two some))
+    let ys : List ℤ = clean h m a (wordOf h m g) in
+    softOutcome-unique h m ys (heardTold t) (gives (record { message = g; value = pos (carriers m * a); tied = false }))
+    (rw (done-word s) at hears) (record {
+      taken = soft-allowed h m ys
+          (record { shape = done-shape s; few = two; long = length-clean h m a (wordOf h m g) });
+      right = sent-loud h m g (done-shape s) (done-message s) a two some;
+    })
 
 pub read-back : (h m g : ℕ) (d w : List ℕ) (t : Reading) → Encodes h m g d w → readingTold t ≡ readOutcome h m w →
     readingTold t ≡ gives g
@@ -114,7 +113,7 @@ read-back h m g d w t s told =
 
 -- 01: h = 1, m = 4, hard 1001001000011101: one place is changed in message 0's word, and two is below 4
 pub sixteen : (r : Matched) → Matches 1 4 (1 ∷ 0 ∷ 0 ∷ 1 ∷ 0 ∷ 0 ∷ 1 ∷ 0 ∷ 0 ∷ 0 ∷ 0 ∷ 1 ∷ 1 ∷ 1 ∷ 0 ∷ 1 ∷ []) r →
-    matchedTold r ≡ gives (record { message = 0; distance = 1; tied = false })
+    matchedTold r ≡ gives (record { message = 0; value = 1; tied = false })
 unfolding badSymbol firstBelow hamming countBelow sumBelow wordAt formAt links pathAt paths orders upTo
     listBelow without keep digit labelPath coefficient constant flatMap labelOf pathBits
 sixteen r =

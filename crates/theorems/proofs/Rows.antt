@@ -2,27 +2,25 @@
 -- what the rules say is told, and every row that holds says that. In order: the step from these two to "exactly"; the
 -- first bad symbol; encode and partner; word reading.
 -- Not here: the pair check (PairRows), the decoders (DecodingRows), the transform (TransformRows).  Assumes nothing.
-use Prim.Native.Nat.{ℕ, _≤_, _<_}
-use native.Mathlib.Decide.{decLt, ℕ-discrete}
-use native.Mathlib.Omega.{arith}
+use Prim.Native.Nat.{ℕ, _<_}
 use mathlib.Core.Path.{_≡_, refl, sym, _∙_, ap, subst}
-use mathlib.Core.Bool.{Bool, true, false}
+use mathlib.Core.Bool.{true}
 use mathlib.Core.List.{List, []}
 use mathlib.Core.Option.{Option, none, some}
 use mathlib.Core.Logic.{_≢_, _↔_}
 use lib.Dec.{leb}
 use lib.ListN.{length}
-use borrow.Author.Tests.{leb-true, leb-false, le-leb, lt-leb}
+use borrow.Author.Tests.{leb-true, leb-false, le-leb, lt-leb, eqb-true, eqb-false, eq-eqb, ne-eqb, not-true, not-false}
 use Rattle.range.proofs.Tests.{firstBelow-at, firstBelow-some}
 use Rattle.rules.specs.Shape.{inShape, phases, carriers, messages}
 use Rattle.rules.specs.Word.{wordOf, symbolAt}
 use Rattle.rules.specs.Symbols.{Symbols}
-use Rattle.rules.specs.Outcome.{Outcome, gives, refuses}
-use Rattle.rules.specs.Table.{badSymbol, messageWith}
-use Rattle.rules.specs.Refusal.{sendRefusal, readOutcome, orNoWord}
-use Rattle.rules.proofs.SymbolLaws.{symbols-of-none, symbols-none}
-use Rattle.encoder.proofs.SentLaws.{send-shape, send-length, send-message, send-allowed}
-use Rattle.reader.proofs.Outcomes.{read-shape, read-length, read-symbol, read-search}
+use Rattle.rules.specs.Outcome.{Outcome, gives, refuses, andThen}
+use Rattle.rules.specs.Table.{badShape, badLength, badSymbol, badMessage, messageWith}
+use Rattle.rules.specs.Refusal.{sendRefusal, wordRefusal, readOutcome, orNoWord}
+use Rattle.rules.proofs.OutcomeLaws.{refuse-cases, refuseAt-cases}
+use Rattle.rules.proofs.RefusalLaws.{send-allowed, word-allowed}
+use Rattle.rules.proofs.SymbolLaws.{symbols-of-none}
 use Rattle.reader.proofs.ShownLaws.{messageWith-some, messageWith-iff, messageWith-none-iff}
 use Rattle.theorems.specs.Rows.{FirstTooGreat, SendRow, send-1, send-2, send-4, send-none}
 use Rattle.theorems.specs.Rows.{ReadRow, read-1, read-2, read-3, read-5, read-gives}
@@ -48,32 +46,40 @@ module _ (h : ℕ) (w : List ℕ) (i : ℕ) where
 
 module _ (h m n g : ℕ) where
   pub send-row : SendRow h m n g (sendRefusal h m n g)
-  send-row = at (inShape h m) refl (ℕ-discrete n (carriers m)) (decLt g (messages h m))
-    where
-      at : (b : Bool) → inShape h m ≡ b → Dec (n ≡ carriers m) → Dec (g < messages h m) →
-          SendRow h m n g (sendRefusal h m n g)
-      at false s _ _ = rw (send-shape h m n g s) (send-1 s)
-      at true s (no l) _ = rw (send-length h m n g s l) (send-2 s l)
-      at true s (yes l) (no b) =
-          let c : messages h m ≤ g = omega arith in
-          rw (send-message h m n g s l (le-leb _ _ c)) (send-4 s l c)
-      at true s (yes l) (yes b) = rw (send-allowed h m n g s l (lt-leb _ _ b)) (send-none s l b)
+  unfolding sendRefusal
+  send-row =
+      let Row = SendRow h m n g in
+      refuse-cases Row 1 (badShape h m) _ (λ s. send-1 (not-true _ s)) (λ s.
+      refuse-cases Row 2 (badLength n (carriers m)) _ (λ l. send-2 (not-false _ s) (eqb-false n _ (not-true _ l))) (λ l.
+      refuse-cases Row 4 (badMessage h m g) _
+      (λ b. send-4 (not-false _ s) (eqb-true n _ (not-false _ l)) (leb-true _ g b))
+      (λ b. send-none (not-false _ s) (eqb-true n _ (not-false _ l)) (leb-false _ g b))))
 
   pub send-only : {o : Outcome (Unit {0})} → SendRow h m n g o → o ≡ sendRefusal h m n g
-  send-only (send-1 s) = sym (send-shape h m n g s)
-  send-only (send-2 s l) = sym (send-length h m n g s l)
-  send-only (send-4 s l b) = sym (send-message h m n g s l (le-leb _ _ b))
-  send-only (send-none s l b) = sym (send-allowed h m n g s l (lt-leb _ _ b))
+  unfolding sendRefusal
+  send-only (send-1 s) = rw s
+  send-only (send-2 s l) = rw (s, ne-eqb n (carriers m) l)
+  send-only (send-4 s l b) = rw (s, eq-eqb n (carriers m) l, le-leb (messages h m) g b)
+  send-only (send-none s l b) = sym (send-allowed h m n g (record { shape = s; long = l; message = b }))
 
 module _ (h m : ℕ) (w : List ℕ) where
   -- past the tests of the table, the search for a message tells
   searched : Symbols h m w → orNoWord (messageWith h m w) ≡ readOutcome h m w
-  unfolding badSymbol
-  searched s = read-search h m w (s .shape) (s .long) (symbols-none h m w s)
+  unfolding readOutcome
+  searched s = rw (word-allowed h m w s)
 
   pub read-row : ReadRow h m w (readOutcome h m w)
-  unfolding badSymbol
-  read-row = at (inShape h m) refl (ℕ-discrete (length w) (carriers m)) (badSymbol h w) refl
+  unfolding readOutcome wordRefusal
+  read-row =
+      let P : Outcome (Unit {0}) → Type 0 = λ r. ReadRow h m w (andThen r (orNoWord (messageWith h m w))) in
+      let long = eqb-true (length w) (carriers m) in
+      refuse-cases P 1 (badShape h m) _ (λ s. read-1 (not-true _ s)) (λ s.
+      refuse-cases P 2 (badLength (length w) (carriers m)) _
+      (λ l. read-2 (not-false _ s) (eqb-false (length w) (carriers m) (not-true _ l))) (λ l.
+      refuseAt-cases P 3 (badSymbol h w) [] _
+      (λ i e. read-3 i (not-false _ s) (long (not-false _ l)) (firstTooGreat-of h w i e))
+      (λ e.
+      found (symbols-of-none h m w (not-false _ s) (long (not-false _ l)) (sym e)) (messageWith h m w) refl)))
     where
       found : (s : Symbols h m w) (f : Option ℕ) → messageWith h m w ≡ f → ReadRow h m w (orNoWord f)
       found s none e = read-5 s (messageWith-none-iff h m w s .0 e)
@@ -81,21 +87,11 @@ module _ (h m : ℕ) (w : List ℕ) where
           let has = messageWith-iff h m w s g .0 e in
           read-gives g (s .shape) (has .0) (has .1)
 
-      at : (b : Bool) → inShape h m ≡ b → Dec (length w ≡ carriers m) → (f : Option ℕ) → badSymbol h w ≡ f →
-          ReadRow h m w (readOutcome h m w)
-      at false s _ f e = subst (ReadRow h m w) (read-shape h m w s) (read-1 s)
-      at true s (no l) f e = subst (ReadRow h m w) (read-length h m w s l) (read-2 s l)
-      at true s (yes l) (some i) e =
-          subst (ReadRow h m w) (read-symbol h m w s l i (sym e)) (read-3 i s l (firstTooGreat-of h w i e))
-      at true s (yes l) none e =
-          let is = symbols-of-none h m w s l (sym e) in
-          subst (ReadRow h m w) (searched is) (found is (messageWith h m w) refl)
-
   pub read-only : {o : Outcome ℕ} → ReadRow h m w o → o ≡ readOutcome h m w
-  unfolding badSymbol
-  read-only (read-1 s) = read-shape h m w s
-  read-only (read-2 s l) = read-length h m w s l
-  read-only (read-3 i s l b) = read-symbol h m w s l i (sym (firstTooGreat-is h w i b))
+  unfolding readOutcome wordRefusal
+  read-only (read-1 s) = rw s
+  read-only (read-2 s l) = rw (s, ne-eqb (length w) (carriers m) l)
+  read-only (read-3 i s l b) = rw (s, eq-eqb (length w) (carriers m) l, firstTooGreat-is h w i b)
   read-only (read-5 s n) = ap orNoWord (sym (messageWith-none-iff h m w s .1 n)) ∙ searched s
   read-only (read-gives g s b e) =
       let is : Symbols h m w = subst (Symbols h m) e (wordOf-symbols h m g s) in

@@ -3,23 +3,23 @@
 -- holds; what the rows say.
 -- Not here: what the transform then does (Transforming); other calls (Rows, PairRows, DecodingRows).  Assumes nothing.
 use Prim.Native.Nat.{ℕ, _-_, _≤_, _<_}
-use native.Mathlib.Decide.{decLt}
 use native.Mathlib.Omega.{arith}
-use mathlib.Core.Path.{_≡_, refl, sym, ap, subst}
-use mathlib.Core.Bool.{Bool, true, false, not}
+use mathlib.Core.Path.{_≡_, refl, sym, ap}
+use mathlib.Core.Bool.{Bool, true, false, not, _||_, false≢true}
 use mathlib.Core.List.{List, []}
-use mathlib.Core.Option.{Option, none, some}
+use mathlib.Core.Option.{none, some}
 use lib.IntN.{ℤ}
 use lib.ListN.{length}
+use borrow.Author.Tests.{ltb-false, le-ltb, not-true, not-false}
 use Rattle.range.specs.Signed.{entry}
-use Rattle.range.proofs.Tests.{firstBelow-some, firstBelow-none}
+use Rattle.range.proofs.Tests.{or-false, true-of-not-false, firstBelow-at, firstBelow-some, firstBelow-nowhere}
 use Rattle.rules.specs.Shape.{inM, carriers}
 use Rattle.rules.specs.Spectrum.{accepted}
 use Rattle.rules.specs.Outcome.{Outcome, refuses}
-use Rattle.rules.specs.Table.{badValue}
+use Rattle.rules.specs.Table.{badM, shortArea, badValue}
 use Rattle.rules.specs.Refusal.{transformRefusal}
-use Rattle.transform.proofs.Outcomes.{refusal-shape, refusal-first-length, refusal-second-length, refusal-value}
-use Rattle.transform.proofs.Outcomes.{refusal-none, badValue-some, refusal-taken}
+use Rattle.rules.proofs.OutcomeLaws.{refuse-cases, refuseAt-cases}
+use Rattle.rules.proofs.RefusalLaws.{transform-allowed}
 use Rattle.theorems.specs.Rows.{FirstOutside, TransformRow, transform-1, transform-2, transform-7, transform-none}
 
 module _ (m : ℕ) (a b : List ℤ) where
@@ -30,47 +30,51 @@ module _ (m : ℕ) (a b : List ℤ) where
   Row = TransformRow m a b
 
   outside-of : (i : ℕ) → badValue m a ≡ some i → FirstOutside m a i
+  unfolding badValue
   outside-of i e =
-      let f = badValue-some m a i e in
-      record { inside = f .0; bad = f .1; before = f .2 }
+      let found = firstBelow-at (carriers m) _ i e in
+      record {
+        inside = found .0;
+        bad = not-true (accepted (entry a i)) (found .1 .0);
+        before = λ j l. not-false (accepted (entry a j)) (found .1 .1 j l);
+      }
 
   outside-is : (i : ℕ) → FirstOutside m a i → badValue m a ≡ some i
   unfolding badValue
   outside-is i f =
       firstBelow-some (carriers m) _ i (f .inside) (ap not (f .bad)) (λ j l. ap not (f .before j l))
 
-  inside-is : ((i : ℕ) → i < carriers m → accepted (entry a i) ≡ true) → badValue m a ≡ none
+  inside-of : badValue m a ≡ none → (i : ℕ) → i < carriers m → accepted (entry a i) ≡ true
   unfolding badValue
-  inside-is all = firstBelow-none (carriers m) _ (λ i l. ap not (all i l))
+  inside-of e i l = not-false (accepted (entry a i)) (firstBelow-nowhere (carriers m) _ e i l)
+
+  -- whether either area is shorter than N, as a test and as a claim
+  abbrev short : Bool
+  short = shortArea (length a) m || shortArea (length b) m
+
+  both : short ≡ false → (carriers m ≤ length a) × (carriers m ≤ length b)
+  both e =
+      let l = or-false (shortArea (length a) m) (shortArea (length b) m) e in
+      (ltb-false (length a) (carriers m) (l .0), ltb-false (length b) (carriers m) (l .1))
+
+  not-both : short ≡ true → (carriers m ≤ length a) × (carriers m ≤ length b) → ⊥
+  not-both e l = false≢true (rw (le-ltb (length a) (carriers m) (l .0), le-ltb (length b) (carriers m) (l .1)) at e)
 
   pub transform-row : Row told
-  transform-row = at (inM m) refl (decLt (length a) (carriers m)) (decLt (length b) (carriers m)) (badValue m a) refl
-    where
-      at : (t : Bool) → inM m ≡ t → Dec (length a < carriers m) → Dec (length b < carriers m) → (f : Option ℕ) →
-          badValue m a ≡ f → Row told
-      at false s _ _ f e = subst Row (refusal-shape m a (length b) s) (transform-1 s)
-      at true s (yes p) _ f e =
-          subst Row (refusal-first-length m a (length b) s p) (transform-2 s (λ l. omega (arith, l .0)))
-      at true s (no p) (yes q) f e =
-          subst Row (refusal-second-length m a (length b) s (omega arith) q) (transform-2 s (λ l. omega (arith, l .1)))
-      at true s (no p) (no q) (some i) e =
-          subst Row (refusal-value m a (length b) s (omega arith) (omega arith) i (sym e))
-          (transform-7 i s (omega arith) (omega arith) (outside-of i e))
-      at true s (no p) (no q) none e =
-          let free = sym (refusal-none m a (length b) s (omega arith) (omega arith) (sym e)) in
-          subst Row (sym free) (transform-none s (omega arith) (omega arith) (refusal-taken m a b free .values))
-
-  -- areas that are not both as long as N
-  short : inM m ≡ true → ((carriers m ≤ length a) × (carriers m ≤ length b) → ⊥) → refuses 2 [] ≡ told
-  short s n = at (decLt (length a) (carriers m)) (decLt (length b) (carriers m))
-    where
-      at : Dec (length a < carriers m) → Dec (length b < carriers m) → refuses 2 [] ≡ told
-      at (yes p) _ = refusal-first-length m a (length b) s p
-      at (no p) (yes q) = refusal-second-length m a (length b) s (omega arith) q
-      at (no p) (no q) = absurd (n (omega arith, omega arith))
+  unfolding transformRefusal
+  transform-row =
+      refuse-cases Row 1 (badM m) _ (λ s. transform-1 (not-true _ s)) (λ s.
+      refuse-cases Row 2 short _ (λ l. transform-2 (not-false _ s) (not-both l)) (λ l.
+      let p = both l .0 in
+      let q = both l .1 in
+      refuseAt-cases Row 7 (badValue m a) [] _ (λ i e. transform-7 i (not-false _ s) p q (outside-of i e))
+      (λ e. transform-none (not-false _ s) p q (inside-of e))))
 
   pub transform-only : {o : Outcome (Unit {0})} → Row o → o ≡ told
-  transform-only (transform-1 s) = refusal-shape m a (length b) s
-  transform-only (transform-2 s n) = short s n
-  transform-only (transform-7 i s p q f) = refusal-value m a (length b) s p q i (sym (outside-is i f))
-  transform-only (transform-none s p q all) = refusal-none m a (length b) s p q (sym (inside-is all))
+  unfolding transformRefusal
+  transform-only (transform-1 s) = rw s
+  transform-only (transform-2 s n) = rw (s, true-of-not-false short (λ e. n (both e)))
+  transform-only (transform-7 i s p q f) =
+      rw (s, le-ltb (length a) (carriers m) p, le-ltb (length b) (carriers m) q, outside-is i f)
+  transform-only (transform-none s p q all) =
+      sym (transform-allowed m a b (record { range = s; first = p; second = q; values = all }))

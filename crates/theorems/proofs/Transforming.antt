@@ -22,8 +22,9 @@ use Rattle.rules.specs.Spectrum.{spectrumAt, stages}
 use Rattle.rules.specs.Outcome.{Outcome, gives, refuses, allowed}
 use Rattle.rules.specs.Refusal.{transformRefusal}
 use Rattle.rules.specs.Areas.{inFirst, firstAfter, secondAfter, partOf, partLength, partInFirst}
-use Rattle.transform.specs.declared.Judged.{Judged}
-use Rattle.transform.specs.Told.{judgedTold, Ran, Handed, AtLast, AtLastOf}
+use Rattle.kinds.specs.declared.Judged.{Judged}
+use Rattle.kinds.specs.Refusals.{judgedTold}
+use Rattle.transform.specs.Told.{Ran, Handed, AtLast, AtLastOf}
 use Rattle.theorems.specs.Rows.{TransformRow}
 use Rattle.theorems.proofs.TransformRows.{transform-row, transform-only}
 

@@ -3,7 +3,7 @@
 -- That anything may be handed in is that no call has a requires; that every call ends is what the checker proves of
 -- every function. A slice lent for reading stays what it is by its type alone (src/lib.rt), so the claims speak of the
 -- slices that a call may write: those of encode and partner, and the areas of the transform and of its core, `run`.
--- A claim takes what a call ensures as its premise: encoder's `Sent`, decoder's `Hears` and `Matches`, transform's
+-- A claim takes what a call ensures as its premise: encoder's `Sent`, answers' `Hears` and `Matches`, transform's
 -- `Ran`, `Handed` and `AtLast` (what the areas hold at last, whole; `AtLastOf x y a b` says that they hold a and b),
 -- and the equations of what is told. The rows: Rows.antt.
 -- Defines:  Demand1    the claims
@@ -29,18 +29,19 @@ use Rattle.rules.specs.Decoding.{SoftAnswer, HardAnswer}
 use Rattle.encoder.specs.declared.Written.{Written}
 use Rattle.encoder.specs.Sent.{writtenTold, Sent}
 use Rattle.pair.specs.declared.Paired.{Paired}
-use Rattle.pair.specs.Told.{pairedTold}
+use Rattle.pair.specs.Paired.{pairedTold}
 use Rattle.reader.specs.declared.Reading.{Reading}
-use Rattle.reader.specs.Told.{readingTold}
-use Rattle.transform.specs.declared.Judged.{Judged}
-use Rattle.transform.specs.Told.{judgedTold, Ran, Handed, AtLast, AtLastOf}
-use Rattle.decoder.specs.declared.Loudest.{Loudest}
-use Rattle.decoder.specs.declared.Closest.{Closest}
-use Rattle.decoder.specs.declared.Heard.{Heard}
-use Rattle.decoder.specs.declared.Heard.the-variants.{Found as Heard·Found}
-use Rattle.decoder.specs.declared.Matched.{Matched}
-use Rattle.decoder.specs.declared.Matched.the-variants.{Found as Matched·Found}
-use Rattle.decoder.specs.Told.{heardTold, matchedTold, Hears, Matches}
+use Rattle.reader.specs.Reading.{readingTold}
+use Rattle.kinds.specs.declared.Judged.{Judged}
+use Rattle.kinds.specs.Refusals.{judgedTold}
+use Rattle.transform.specs.Told.{Ran, Handed, AtLast, AtLastOf}
+use Rattle.answers.specs.declared.Loudest.{Loudest}
+use Rattle.answers.specs.declared.Closest.{Closest}
+use Rattle.answers.specs.declared.Heard.{Heard}
+use Rattle.answers.specs.declared.Heard.the-variants.{Found as Heard·Found}
+use Rattle.answers.specs.declared.Matched.{Matched}
+use Rattle.answers.specs.declared.Matched.the-variants.{Found as Matched·Found}
+use Rattle.answers.specs.Decoded.{heardTold, matchedTold, Hears, Matches}
 use Rattle.theorems.specs.Rows.{SendRow, PairRow, ReadRow, SoftRow, HardRow, TransformRow}
 
 pub record Demand1 : Type 2 where

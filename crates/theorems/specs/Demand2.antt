@@ -15,12 +15,14 @@ use Rattle.range.specs.Below.{sumBelow, listBelow, _! }
 use Rattle.rules.specs.Shape.{inM, inShape, phases, halfTurn, carriers, pathsInUse, messages}
 use Rattle.rules.specs.Place.{digit}
 use Rattle.rules.specs.Path.{headOf, IsPath, Before, paths, pathAt}
-use Rattle.rules.specs.Label.{labelPath, coefficient, constant, labelParts, labelOf}
+use Rattle.rules.specs.Label.{labels, labelPath, coefficient, constant, labelParts, labelOf}
 use Rattle.rules.specs.Word.{wordAt, wordOf, partnerOf, symbolAt}
 use Rattle.rules.specs.Symbols.{Symbols}
 use Rattle.rules.specs.Pair.{pairCount, GolayPair}
 use Rattle.rules.specs.Autocorrelation.{autocorrelation, Cancel}
-use Rattle.rules.specs.Best.{Greatest, Nearest}
+use Rattle.rules.specs.Distance.{distanceTo}
+use Rattle.rules.specs.Soft.{correlation}
+use Rattle.rules.specs.Best.{Tied, Greatest, Nearest}
 use Rattle.rules.specs.Outcome.{gives, refuses}
 use Rattle.rules.specs.Refusal.{pairOutcome, readOutcome}
 use Rattle.encoder.specs.declared.Written.{Written}
@@ -28,14 +30,14 @@ use Rattle.encoder.specs.declared.Written.the-variants.{Done}
 use Rattle.encoder.specs.Sent.{Sent}
 use Rattle.pair.specs.declared.Paired.{Paired}
 use Rattle.pair.specs.declared.Paired.the-variants.{Yes, No}
-use Rattle.pair.specs.Told.{pairedTold}
+use Rattle.pair.specs.Paired.{pairedTold}
 use Rattle.reader.specs.declared.Reading.{Reading}
-use Rattle.reader.specs.Told.{readingTold}
-use Rattle.decoder.specs.declared.Loudest.{Loudest}
-use Rattle.decoder.specs.declared.Closest.{Closest}
-use Rattle.decoder.specs.declared.Heard.the-variants.{Found as Heard·Found}
-use Rattle.decoder.specs.declared.Matched.the-variants.{Found as Matched·Found}
-use Rattle.decoder.specs.Told.{Hears, Matches}
+use Rattle.reader.specs.Reading.{readingTold}
+use Rattle.answers.specs.declared.Loudest.{Loudest}
+use Rattle.answers.specs.declared.Closest.{Closest}
+use Rattle.answers.specs.declared.Heard.the-variants.{Found as Heard·Found}
+use Rattle.answers.specs.declared.Matched.the-variants.{Found as Matched·Found}
+use Rattle.answers.specs.Decoded.{Hears, Matches}
 use Rattle.theorems.specs.Names.{word, partner, Encodes, Partners}
 
 pub record Demand2 : Type 0 where
@@ -111,8 +113,13 @@ pub record Demand2 : Type 0 where
   pub self-not-pair : (h m : ℕ) (a : ℕ → ℕ) → 1 ≤ h → 1 ≤ m → GolayPair h m a a → ⊥
   pub self-no : (h m : ℕ) (w : List ℕ) (r : Paired) → Symbols h m w → pairedTold r ≡ pairOutcome h m w w → r ≡ No
   -- DECODERS, for two and four phases. What is found has the greatest correlation of all words of the shape, or the
-  -- least distance; it is the first in label order that has it, and tied exactly where another has it too.
+  -- least distance, and is the first in label order that has it.
   pub soft-greatest : (h m : ℕ) (ys : List ℤ) (a : Loudest) → Hears h m ys (Heard·Found a) →
-      Greatest h m ys (labelOf h m (a .message .0)) (a .correlation) (a .tied)
+      Greatest h m ys (labelOf h m (a .message .0)) (a .correlation)
   pub hard-nearest : (h m : ℕ) (w : List ℕ) (a : Closest) → Matches h m w (Matched·Found a) →
-      Nearest h m w (labelOf h m (a .message .0)) (a .distance) (a .tied)
+      Nearest h m w (labelOf h m (a .message .0)) (a .distance)
+  -- It is tied exactly where another label of the shape has that value too.
+  pub soft-tied : (h m : ℕ) (ys : List ℤ) (a : Loudest) → Hears h m ys (Heard·Found a) →
+      Tied (labels h m) (correlation h m ys) (labelOf h m (a .message .0)) (a .correlation) (a .tied)
+  pub hard-tied : (h m : ℕ) (w : List ℕ) (a : Closest) → Matches h m w (Matched·Found a) →
+      Tied (labels h m) (distanceTo h m w) (labelOf h m (a .message .0)) (a .distance) (a .tied)

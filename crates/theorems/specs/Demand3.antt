@@ -13,8 +13,8 @@ use Rattle.rules.specs.Word.{symbolAt}
 use Rattle.rules.specs.Symbols.{Symbols}
 use Rattle.rules.specs.Distance.{hamming, lee}
 use Rattle.rules.specs.Outcome.{gives}
-use Rattle.decoder.specs.declared.Matched.{Matched}
-use Rattle.decoder.specs.Told.{matchedTold, Matches}
+use Rattle.answers.specs.declared.Matched.{Matched}
+use Rattle.answers.specs.Decoded.{matchedTold, Matches}
 use Rattle.theorems.specs.Names.{word}
 
 pub record Demand3 : Type 0 where
@@ -28,8 +28,8 @@ pub record Demand3 : Type 0 where
   -- decoding gives the message sent, the number of changed places, and no tie.
   pub damage-two : (m g : ℕ) (w : List ℕ) (r : Matched) → Symbols 1 m w → g < messages 1 m →
       let d = hamming (carriers m) (symbolAt w) (word 1 m g) in 2 * d < 2 ^ (m - 2) → Matches 1 m w r →
-      matchedTold r ≡ gives (record { message = g; distance = d; tied = false })
+      matchedTold r ≡ gives (record { message = g; value = d; tied = false })
   -- Four phases: the same with the Lee weight of the damage in place of the number, where twice it is below 2^(m-1).
   pub damage-four : (m g : ℕ) (w : List ℕ) (r : Matched) → Symbols 2 m w → g < messages 2 m →
       let d = lee 2 (carriers m) (symbolAt w) (word 2 m g) in 2 * d < 2 ^ (m - 1) → Matches 2 m w r →
-      matchedTold r ≡ gives (record { message = g; distance = d; tied = false })
+      matchedTold r ≡ gives (record { message = g; value = d; tied = false })

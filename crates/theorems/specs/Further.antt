@@ -20,10 +20,10 @@ use Rattle.rules.specs.Soft.{correlation, clean}
 use Rattle.rules.specs.Outcome.{gives}
 use Rattle.rules.specs.Refusal.{readOutcome}
 use Rattle.reader.specs.declared.Reading.{Reading}
-use Rattle.reader.specs.Told.{readingTold}
-use Rattle.decoder.specs.declared.Heard.{Heard}
-use Rattle.decoder.specs.declared.Matched.{Matched}
-use Rattle.decoder.specs.Told.{heardTold, matchedTold, Hears, Matches}
+use Rattle.reader.specs.Reading.{readingTold}
+use Rattle.answers.specs.declared.Heard.{Heard}
+use Rattle.answers.specs.declared.Matched.{Matched}
+use Rattle.answers.specs.Decoded.{heardTold, matchedTold, Hears, Matches}
 use Rattle.theorems.specs.Names.{word, partner, Encodes}
 
 pub record Further : Type 0 where
@@ -32,12 +32,12 @@ pub record Further : Type 0 where
       readingTold r ≡ gives g
   -- Encode, then hard decoding, for two and four phases: the message, at distance 0, not tied.
   pub hard-back : (h m g : ℕ) (d w : List ℕ) (r : Matched) → h ≤ 2 → Encodes h m g d w → Matches h m w r →
-      matchedTold r ≡ gives (record { message = g; distance = 0; tied = false })
+      matchedTold r ≡ gives (record { message = g; value = 0; tied = false })
   -- Encode, then soft decoding, for two and four phases, of the word at any amplitude a that sixteen bits hold, with no
   -- noise: the message, with correlation N a, not tied.
   pub soft-back : (h m g a : ℕ) (d w : List ℕ) (r : Heard) → h ≤ 2 → 1 ≤ a → a ≤ 32767 → Encodes h m g d w →
       Hears h m (clean h m a w) r →
-      heardTold r ≡ gives (record { message = g; correlation = pos (carriers m * a); tied = false })
+      heardTold r ≡ gives (record { message = g; value = pos (carriers m * a); tied = false })
   pub clean-fits : (h m a : ℕ) (w : List ℕ) → a ≤ 32767 → (j : ℕ) → natAbs (entry (clean h m a w) j) ≤ 32767
   -- THE GREATEST SIZE of a correlation is N times 32,768, that of a soft value being 32,768.
   pub correlation-size : (h m : ℕ) (ys : List ℤ) (l : ℕ) → ((i : ℕ) → natAbs (entry ys i) ≤ 32768) →
@@ -51,7 +51,7 @@ pub record Further : Type 0 where
   -- SIXTEEN SYMBOLS: h = 1, m = 4, hard 1001001000011101 gives message 0, distance 1, not tied.
   pub sixteen : (r : Matched) →
       Matches 1 4 (1 ∷ 0 ∷ 0 ∷ 1 ∷ 0 ∷ 0 ∷ 1 ∷ 0 ∷ 0 ∷ 0 ∷ 0 ∷ 1 ∷ 1 ∷ 1 ∷ 0 ∷ 1 ∷ []) r →
-      matchedTold r ≡ gives (record { message = 0; distance = 1; tied = false })
+      matchedTold r ≡ gives (record { message = 0; value = 1; tied = false })
   -- PEAK POWER (the equation in the proof of 001's Theorem 2). At every moment s / 2^r of a symbol period, r from h on,
   -- the envelope powers of word and partner add up to 2 N: 2 N at coordinate 0, and 0 at the others. Each is the square
   -- of a size, so neither is above 2 N, as Theorem 2 says; that last step, one of real numbers, is not stated here.

@@ -9,7 +9,7 @@
 --           SoftRow h m ys o      soft decoding of ys tells o
 --           HardRow h m w o       hard decoding of w tells o
 --           TransformRow m a b o  the question about a transform of the areas a and b tells o
--- The words of the rows: rules Shape, Symbols, Word, Autocorrelation (Cancel), Soft, Best, Decoding, Spectrum.
+-- The words of the rows: rules Shape, Symbols, Word, Autocorrelation (Cancel), Soft, Decoding, Spectrum.
 -- Proved in proofs/Rows.antt, PairRows.antt, DecodingRows.antt and TransformRows.antt: a call tells o exactly where a
 -- row says so.  Assumes nothing: these are definitions.
 use Prim.Native.Nat.{ℕ, _≤_, _<_}
@@ -21,15 +21,13 @@ use lib.IntN.{ℤ}
 use lib.ListN.{length}
 use Rattle.range.specs.Signed.{entry}
 use Rattle.rules.specs.Shape.{inM, inShape, phases, carriers, messages}
-use Rattle.rules.specs.Label.{labelOf}
 use Rattle.rules.specs.Word.{wordOf, symbolAt}
 use Rattle.rules.specs.Symbols.{Symbols}
 use Rattle.rules.specs.Autocorrelation.{Cancel}
 use Rattle.rules.specs.Soft.{softLength}
-use Rattle.rules.specs.Best.{Greatest, Nearest}
 use Rattle.rules.specs.Spectrum.{accepted}
 use Rattle.rules.specs.Outcome.{Outcome, gives, refuses, allowed}
-use Rattle.rules.specs.Decoding.{SoftAnswer, HardAnswer}
+use Rattle.rules.specs.Decoding.{SoftAnswer, HardAnswer, Loud, Near}
 
 pub record FirstTooGreat (h : ℕ) (w : List ℕ) (i : ℕ) : Type 0 where
   pub inside : i < length w
@@ -71,8 +69,7 @@ pub data SoftRow (h m : ℕ) (ys : List ℤ) : Outcome SoftAnswer → Type 0 whe
   soft-6 : inShape h m ≡ true → h ≡ 3 → SoftRow h m ys (refuses 6 [])
   soft-2 : inShape h m ≡ true → h ≢ 3 → length ys ≢ softLength h m → SoftRow h m ys (refuses 2 [])
   soft-gives : (a : SoftAnswer) → inShape h m ≡ true → h ≢ 3 → length ys ≡ softLength h m →
-      a .message < messages h m → Greatest h m ys (labelOf h m (a .message)) (a .correlation) (a .tied) →
-      SoftRow h m ys (gives a)
+      Loud h m ys a → SoftRow h m ys (gives a)
 
 pub data HardRow (h m : ℕ) (w : List ℕ) : Outcome HardAnswer → Type 0 where
   hard-1 : inShape h m ≡ false → HardRow h m w (refuses 1 [])
@@ -80,8 +77,7 @@ pub data HardRow (h m : ℕ) (w : List ℕ) : Outcome HardAnswer → Type 0 wher
   hard-2 : inShape h m ≡ true → h ≢ 3 → length w ≢ carriers m → HardRow h m w (refuses 2 [])
   hard-3 : (i : ℕ) → inShape h m ≡ true → h ≢ 3 → length w ≡ carriers m → FirstTooGreat h w i →
       HardRow h m w (refuses 3 (i ∷ []))
-  hard-gives : (a : HardAnswer) → h ≢ 3 → Symbols h m w → a .message < messages h m →
-      Nearest h m w (labelOf h m (a .message)) (a .distance) (a .tied) → HardRow h m w (gives a)
+  hard-gives : (a : HardAnswer) → h ≢ 3 → Symbols h m w → Near h m w a → HardRow h m w (gives a)
 
 pub data TransformRow (m : ℕ) (a b : List ℤ) : Outcome (Unit {0}) → Type 0 where
   transform-1 : inM m ≡ false → TransformRow m a b (refuses 1 [])

@@ -18,8 +18,9 @@ use Rattle.rules.specs.Shape.{carriers}
 use Rattle.rules.specs.Spectrum.{spectrumAt, stages}
 use Rattle.rules.specs.Outcome.{refuses, allowed}
 use Rattle.rules.specs.Refusal.{transformRefusal}
-use Rattle.transform.specs.declared.Judged.{Judged}
-use Rattle.transform.specs.Told.{judgedTold, Ran, Handed, AtLast, AtLastOf}
+use Rattle.kinds.specs.declared.Judged.{Judged}
+use Rattle.kinds.specs.Refusals.{judgedTold}
+use Rattle.transform.specs.Told.{Ran, Handed, AtLast, AtLastOf}
 use Rattle.theorems.specs.Rows.{TransformRow}
 
 pub record Transforms : Type 1 where

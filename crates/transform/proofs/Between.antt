@@ -15,7 +15,8 @@ use Rattle.range.specs.Signed.{entry}
 use Rattle.rules.specs.Shape.{carriers}
 use Rattle.rules.specs.Spectrum.{stages}
 use Rattle.rules.proofs.Range.{inM-range}
-use Rattle.transform.specs.Steps.{butterfly, Readable, Taken, firstAt, secondAt}
+use Rattle.rules.proofs.RefusalLaws.{TransformTaken}
+use Rattle.transform.specs.Steps.{butterfly, Readable, firstAt, secondAt}
 use Rattle.transform.proofs.Stages.{Holds, holds-readable, holds-turn, firstAt-none, secondAt-none}
 use Rattle.transform.proofs.Stages.{length-firstAt, length-secondAt}
 use Rattle.transform.proofs.Stages.{firstAt-holds, firstAt-turn, firstAt-stays}
@@ -42,7 +43,7 @@ between-all {m} {a} {b} {k = k} v l =
     let e : k ≡ m = omega (arith, v .count) in
     (v .here ∙ ap (λ (j : ℕ). firstAt m j a) e, v .there ∙ ap (λ (j : ℕ). secondAt m j a b) e)
 
-module _ (m n : ℕ) (a b : List ℤ) (t : Taken m a b) (size : n ≡ carriers m) where
+module _ (m n : ℕ) (a b : List ℤ) (t : TransformTaken m a b) (size : n ≡ carriers m) where
   pub between-none : Between m a b a b n 0
   between-none = record {
     count = omega arith;

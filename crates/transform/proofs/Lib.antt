@@ -1,7 +1,6 @@
--- Laws of the transform: its refusals, a stage, the stages between two areas, what they leave, and that only one
+-- Laws of the transform: a stage, the stages between two areas, what they leave, and that only one
 -- outcome is promised; then, in the logic of loans, the call of `run` and the part that is handed out.
 pub mod Bits
-pub mod Outcomes
 pub mod Halves
 pub mod Stages
 pub mod Between

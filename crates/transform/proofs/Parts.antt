@@ -22,10 +22,10 @@ use Rattle.rules.specs.Outcome.{Outcome, gives, refuses, allowed, leaves}
 use Rattle.rules.specs.Refusal.{transformRefusal}
 use Rattle.rules.specs.Areas.{inFirst, firstAfter, secondAfter, partOf, partLength, partInFirst}
 use Rattle.rules.proofs.Range.{inM-range}
+use Rattle.rules.proofs.RefusalLaws.{transform-taken}
 use Rattle.spectrum.proofs.Entries.{stages-spectrum}
 use Rattle.transform.specs.Told.{Ran}
 use Rattle.transform.specs.Steps.{firstAt, secondAt}
-use Rattle.transform.proofs.Outcomes.{refusal-taken}
 
 module _ (m : ℕ) (a b : List ℤ) where
   abbrev outcome : Outcome (Unit {0})
@@ -46,11 +46,11 @@ module _ (m : ℕ) (a b : List ℤ) where
 
   pub length-firstAfter : length (firstAfter m a b) ≡ length a
   unfolding firstAfter
-  length-firstAfter = length-leaves a (inTheFirst (inFirst m)) (λ e. refusal-taken m a b e .first) outcome refl
+  length-firstAfter = length-leaves a (inTheFirst (inFirst m)) (λ e. transform-taken m a b e .first) outcome refl
 
   pub length-secondAfter : length (secondAfter m a b) ≡ length b
   unfolding secondAfter
-  length-secondAfter = length-leaves b (inTheSecond (inFirst m)) (λ e. refusal-taken m a b e .second) outcome refl
+  length-secondAfter = length-leaves b (inTheSecond (inFirst m)) (λ e. transform-taken m a b e .second) outcome refl
 
   pub length-partOf : length (partOf m a b) ≡ partLength m a b
   unfolding partOf partLength
@@ -151,5 +151,5 @@ module _ (m : ℕ) (a b : List ℤ) where
   ran-allowed n a′ b′ e p q r = record {
     count = p ∙ rw e;
     first = q ∙ firstAt-is ∙ rw e;
-    second = r ∙ secondAt-is (omega (arith, inM-range m (refusal-taken m a b e .range) .0)) ∙ rw e;
+    second = r ∙ secondAt-is (omega (arith, inM-range m (transform-taken m a b e .range) .0)) ∙ rw e;
   }

@@ -1,5 +1,4 @@
--- Only one outcome keeps each promise. In order: what an answer to the question tells determines it; one answer; one
--- outcome of `run`; of `transform` one part, in contents and place, and one ending of both areas, each of them whole.
+-- Only one outcome keeps each promise. In order: one outcome of `run`; of `transform` one part, in contents and place, and one ending of both areas, each of them whole.
 -- The last is said in the logic, and assumes `Given`: no two endings can be promised of the same two areas. The others
 -- assume nothing.
 use Prim.Native.Nat.{ℕ}
@@ -16,22 +15,7 @@ use denote.Builtin.{i32}
 use denote.Ref.{RefT, ptr, name, now}
 use denote.Slice.{finally}
 use denote.ExitLaws.{finally-one}
-use Rattle.rules.specs.Refusal.{transformRefusal}
-use Rattle.rules.proofs.OutcomeLaws.{gives-not-refuses}
-use Rattle.kinds.proofs.ToldLaws.{refusalTold-inj}
-use Rattle.transform.specs.declared.Judged.{Judged}
-use Rattle.transform.specs.declared.Judged.the-variants.{Allowed, Refused}
-use Rattle.transform.specs.Told.{judgedTold, Ran, Handed, AtLastOf}
-
-pub judgedTold-inj : (r s : Judged) → judgedTold r ≡ judgedTold s → r ≡ s
-judgedTold-inj Allowed Allowed e = refl
-judgedTold-inj Allowed (Refused s) e = absurd (gives-not-refuses e)
-judgedTold-inj (Refused r) Allowed e = absurd (gives-not-refuses (sym e))
-judgedTold-inj (Refused r) (Refused s) e = ap Refused (refusalTold-inj r s e)
-
-pub judged-unique : (m : ℕ) (a : List ℤ) (n : ℕ) (r s : Judged) → judgedTold r ≡ transformRefusal m a n →
-    judgedTold s ≡ transformRefusal m a n → r ≡ s
-judged-unique m a n r s p q = judgedTold-inj r s (p ∙ sym q)
+use Rattle.transform.specs.Told.{Ran, Handed, AtLastOf}
 
 pub ran-unique : {m : ℕ} {a b : List ℤ} {n k : ℕ} {a′ b′ c′ d′ : List ℤ} → Ran m a b n a′ b′ → Ran m a b k c′ d′ →
     (n ≡ k) × (a′ ≡ c′) × (b′ ≡ d′)

@@ -4,8 +4,6 @@
 --           Readable s n a       a stage may read the first n entries of a: blocks of 2 s fill them, and no sum or
 --                                difference of two leaves 32 bits
 --           Block s p a d        the block that begins at p may be read of a and written to d
---           Taken m a b          nothing is refused: m is in range, each area has N entries, and the first N of a are
---                                accepted
 --           firstAt m k a        what the first area holds after k stages: what the last even stage wrote, and
 --           secondAt m k a b     the second: what the last odd stage wrote; before any stage, b
 -- Laws: proofs/Halves.antt, Stages.antt.  Assumes nothing: these are definitions.
@@ -40,12 +38,6 @@ pub record Block (s p : ℕ) (a d : List ℤ) : Type 0 where
   pub inside : p + s + s ≤ length a
   pub fits : p + s + s ≤ length d
   pub small : (i : ℕ) → i < p + s + s → mag (entry a i) < 2 ^ 30
-
-pub record Taken (m : ℕ) (a b : List ℤ) : Type 0 where
-  pub range : inM m ≡ true
-  pub first : carriers m ≤ length a
-  pub second : carriers m ≤ length b
-  pub values : (i : ℕ) → i < carriers m → accepted (entry a i) ≡ true
 
 unfoldable pub firstAt : ℕ → ℕ → List ℤ → List ℤ
 firstAt m k a = filled (carriers m) (stages m (2 * (k / 2)) (entry a)) a

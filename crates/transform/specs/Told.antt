@@ -1,6 +1,5 @@
--- What the transform and the question about it promise: 01 "The transform by itself", "When the receiver says no".
--- Defines:  judgedTold r            what the answer to the question says, in 01's terms
---           Ran m a b n a′ b′       the promise of `run`: how many entries it gives, and both areas afterwards
+-- What the transform promises: 01 "The transform by itself", "When the receiver says no".
+-- Defines:  Ran m a b n a′ b′       the promise of `run`: how many entries it gives, and both areas afterwards
 --           Handed m x y r          what the part r is that the transform hands back, of the areas x and y: what it
 --                                   holds, and where it stands
 --           AtLastOf x y a b        what the areas x and y hold at last, when their loans are over: a and b
@@ -15,15 +14,7 @@ use base.Fml.{Fml, fsep}
 use denote.Builtin.{i32}
 use denote.Ref.{RefT, ptr, name, now}
 use denote.Slice.{finally}
-use Rattle.rules.specs.Outcome.{Outcome, allowed}
 use Rattle.rules.specs.Areas.{firstAfter, secondAfter, partOf, partLength, partInFirst}
-use Rattle.kinds.specs.Told.{refusalTold}
-use Rattle.transform.specs.declared.Judged.{Judged}
-use Rattle.transform.specs.declared.Judged.the-variants.{Allowed, Refused}
-
-abbrev pub judgedTold : Judged → Outcome (Unit {0})
-judgedTold Allowed = allowed
-judgedTold (Refused r) = refusalTold r
 
 pub record Ran (m : ℕ) (a b : List ℤ) (n : ℕ) (a′ b′ : List ℤ) : Type 0 where
   pub count : n ≡ partLength m a b

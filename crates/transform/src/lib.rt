@@ -2,42 +2,25 @@
 // Stage k = 1, .., m reads one area and writes the other, the first stage the second area. The part handed back is the
 // front of the area that the last stage wrote: the first for even m, the second for odd m.
 // Refusals in their order: 1 an m out of range, 2 an area shorter than N, 7 an input out of range, with the first bad
-// place. A refused transform changes nothing, and hands back the empty part at the front of the first area; `refusal`
-// says which refusal it is.
+// place. A refused transform changes nothing, and hands back the empty part at the front of the first area;
+// `refusals::transform` answers which refusal it is.
 // Contracts cite rules, specs/Areas.antt and Spectrum.antt; of this crate specs/Told.antt and, for the steps,
 // Steps.antt.
-use kinds::Place;
-use kinds::Refusal;
-use kinds::Search;
+use kinds::Judged;
 ghost use Prim.Native.Nat.{_+_, _≤_, _<_};
 ghost use mathlib.Core.Path.{_≡_};
-ghost use mathlib.Core.Bool.{not};
 ghost use lib.IntN.{_+ℤ_, _-ℤ_};
 ghost use lib.ListN.{length};
 ghost use ghost.Atoms.{sem};
 ghost use mir.Syntax.{w32};
 ghost use mir.Val.{SFits};
-ghost use Rattle.range.specs.Below.{firstBelow, filled, Fills};
+ghost use Rattle.range.specs.Below.{filled, Fills};
 ghost use Rattle.range.specs.Signed.{entry};
 ghost use Rattle.rules.specs.Shape.{carriers};
-ghost use Rattle.rules.specs.Spectrum.{accepted};
+ghost use Rattle.rules.specs.Outcome.{allowed};
 ghost use Rattle.rules.specs.Refusal.{transformRefusal};
-ghost use Rattle.kinds.specs.Told.{searchTold};
-ghost use Rattle.transform.specs.Told.{judgedTold, Ran, Handed, AtLast};
-ghost use Rattle.transform.specs.Steps.{butterfly, firstAt, secondAt, Readable, Block, Taken};
-
-// The least and the greatest input that is taken.
-const WIDEST: i32 = 32768;
-
-pub const LEAST: i32 = -WIDEST;
-
-pub const GREATEST: i32 = WIDEST - 1;
-
-// What `refusal` answers.
-pub enum Judged {
-    Allowed,
-    Refused(Refusal),
-}
+ghost use Rattle.transform.specs.Told.{Ran, Handed, AtLast};
+ghost use Rattle.transform.specs.Steps.{butterfly, firstAt, secondAt, Readable, Block};
 
 // The spectrum of the first N entries of the first area, as a part of the area that holds it: of the first for even m,
 // of the second for odd m. The other area then holds what stood after stage m - 1, and entries from N on stay in both.
@@ -59,71 +42,13 @@ pub fn transform<'a>(m: u32, first: &'a mut [i32], second: &'a mut [i32]) -> &'a
     &second[..n]
 }
 
-// The refusal that the transform gives on these areas as they stand, if it gives one: 1 an m out of range, 2 an area
-// shorter than N, 7 with the first of the first N entries of the first area that is out of range. The areas are only
-// read.
-pub fn refusal(m: u32, first: &[i32], second: &[i32]) -> Judged
-    ensures { λ r. ⌜ judgedTold r ≡ transformRefusal m (now (first .entry)) (length (now (second .entry))) ⌝ }
-{
-    if !shape::in_m(m) {
-        return Judged::Refused(Refusal::Shape);
-    }
-    let n = shape::power(m) as usize;
-    if first.len() < n {
-        return Judged::Refused(Refusal::Length);
-    }
-    if second.len() < n {
-        return Judged::Refused(Refusal::Length);
-    }
-    if let Search::At(place) = first_outside(n, first) {
-        return Judged::Refused(Refusal::Value(place));
-    }
-    Judged::Allowed
-}
-
-// The first of the first n entries that is out of range.
-fn first_outside(n: usize, area: &[i32]) -> Search
-    requires { ⌜ n ≤ length (now area) ⌝ }
-    ensures { λ r. ⌜ searchTold r ≡ firstBelow n (λ i. not (accepted (entry (now (area .entry)) i))) ⌝ }
-{
-    let mut i = 0;
-    while i < n {
-        if !takes(at(area, i)) {
-            return Search::At(Place(i));
-        }
-        i += 1;
-    }
-    Search::Nowhere
-}
-
-// Whether an input is in its range.
-fn takes(v: i32) -> bool
-    ensures { λ r. ⌜ r ≡ accepted v ⌝ }
-{
-    if v < LEAST {
-        return false;
-    }
-    if GREATEST < v {
-        return false;
-    }
-    true
-}
-
-// Entry i of an area.
-fn at(area: &[i32], i: usize) -> i32
-    requires { ⌜ i < length (now area) ⌝ }
-    ensures { λ r. ⌜ r ≡ entry (now (area .entry)) i ⌝ }
-{
-    area[i]
-}
-
 // Runs the stages between the two areas, and answers how many entries the spectrum has: N, or 0 where the transform is
 // refused, and both areas then stay as they are. It is the transform without its part, for callers that go on with the
 // areas themselves.
 pub fn run(m: u32, first: &mut [i32], second: &mut [i32]) -> usize
     ensures { λ r. ⌜ Ran m (now (first .entry)) (now (second .entry)) r (now (first .exit)) (now (second .exit)) ⌝ }
 {
-    if let Judged::Refused(_) = refusal(m, first, second) {
+    if let Judged::Refused(_) = refusals::transform(m, first, second) {
         return 0;
     }
     let n = shape::power(m) as usize;
@@ -133,7 +58,8 @@ pub fn run(m: u32, first: &mut [i32], second: &mut [i32]) -> usize
 
 // The m stages, to and fro: the odd ones read the first area and write the second.
 fn rounds(m: u32, n: usize, first: &mut [i32], second: &mut [i32])
-    requires { ⌜ Taken m (now first) (now second) × (n ≡ carriers m) ⌝ }
+    requires { ⌜ transformRefusal m (now first) (length (now second)) ≡ allowed ⌝ }
+    requires { ⌜ n ≡ carriers m ⌝ }
     ensures { λ _. ⌜ now (first .exit) ≡ firstAt m m (now (first .entry)) ⌝ }
     ensures { λ _. ⌜ now (second .exit) ≡ secondAt m m (now (first .entry)) (now (second .entry)) ⌝ }
 {

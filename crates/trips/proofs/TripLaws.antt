@@ -10,14 +10,14 @@ use Rattle.encoder.specs.declared.Written.{Written}
 use Rattle.encoder.specs.Sent.{Sent}
 use Rattle.encoder.proofs.SentLaws.{sent-done, sent-word}
 use Rattle.pair.specs.declared.Paired.{Paired}
-use Rattle.pair.specs.Told.{pairedTold}
-use Rattle.pair.proofs.Told.{paired-unique}
+use Rattle.pair.specs.Paired.{pairedTold}
+use Rattle.pair.proofs.Unique.{paired-unique}
 use Rattle.reader.specs.declared.Reading.{Reading}
-use Rattle.reader.specs.Told.{readingTold}
-use Rattle.reader.proofs.Outcomes.{reading-unique}
-use Rattle.decoder.specs.declared.Matched.{Matched}
-use Rattle.decoder.specs.Told.{Matches}
-use Rattle.decoder.proofs.Outcomes.{matches-unique}
+use Rattle.reader.specs.Reading.{readingTold}
+use Rattle.reader.proofs.Unique.{reading-unique}
+use Rattle.answers.specs.declared.Matched.{Matched}
+use Rattle.answers.specs.Decoded.{Matches}
+use Rattle.answers.proofs.Unique.{matches-unique}
 use Rattle.theorems.proofs.Proved.{theorems}
 use Rattle.trips.specs.Trips.{ReadBack, HardBack, CheckBack}
 

@@ -13,11 +13,11 @@ use Rattle.rules.specs.Outcome.{gives, allowed, leaves}
 use Rattle.rules.specs.Refusal.{sendRefusal, pairOutcome, readOutcome}
 use Rattle.pair.specs.declared.Paired.{Paired}
 use Rattle.pair.specs.declared.Paired.the-variants.{Yes}
-use Rattle.pair.specs.Told.{pairedTold}
+use Rattle.pair.specs.Paired.{pairedTold}
 use Rattle.reader.specs.declared.Reading.{Reading}
-use Rattle.reader.specs.Told.{readingTold}
-use Rattle.decoder.specs.declared.Matched.{Matched}
-use Rattle.decoder.specs.Told.{matchedTold, Matches}
+use Rattle.reader.specs.Reading.{readingTold}
+use Rattle.answers.specs.declared.Matched.{Matched}
+use Rattle.answers.specs.Decoded.{matchedTold, Matches}
 
 abbrev pub written : ℕ → ℕ → ℕ → List ℕ → List ℕ → List ℕ
 written h m g d w = leaves (sendRefusal h m (length d) g) d w
@@ -31,7 +31,7 @@ pub record HardBack (h m g : ℕ) (d : List ℕ) (r : Matched) (d′ : List ℕ)
   pub slice : d′ ≡ written h m g d (wordOf h m g)
   pub answer : Matches h m d′ r
   pub back : sendRefusal h m (length d) g ≡ allowed → h ≤ 2 →
-      matchedTold r ≡ gives (record { message = g; distance = 0; tied = false })
+      matchedTold r ≡ gives (record { message = g; value = 0; tied = false })
 
 pub record CheckBack (h m g : ℕ) (d e : List ℕ) (r : Paired) (d′ e′ : List ℕ) : Type 0 where
   pub slice : d′ ≡ written h m g d (wordOf h m g)

@@ -1,6 +1,6 @@
 // Round trips as code: what a sender and a receiver call one after the other, and what comes back. That it comes back
 // is a theorem of the index (crate theorems), here of the very calls. What they promise is in specs/Trips.antt.
-use decoder::Matched;
+use answers::Matched;
 use kinds::MessageNumber;
 use pair::Paired;
 use reader::Reading;

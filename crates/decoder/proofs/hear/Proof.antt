@@ -3,9 +3,10 @@
 use mathlib.Core.Path.{_≡_, _∙_, ap}
 use denote.Ref.{now}
 use borrow.Author.Needs.{needs}
+use Rattle.rules.proofs.RefusalLaws.{SoftTaken, soft-taken}
 use Rattle.totals.specs.Gains.{softGain, tableOf}
 use Rattle.engine.specs.Search.{searched}
-use Rattle.decoder.proofs.Taken.{SoftTaken, soft-taken}
+use Rattle.decoder.proofs.Lengths.{softLength-product}
 use Rattle.decoder.proofs.Found.{soft-best-le, soft-found}
 use Rattle.decoder.proofs.hear.Statement.{statement}
 use Rattle.decoder.proofs.hear.Tie as tie
@@ -17,7 +18,8 @@ taken s = soft-taken _ _ _ (s .pre .0)
 raise-requires : tie.Need-raise-requires
 raise-requires c κs =
     let s = c .before .before in
-    ((taken s .shape, taken s .few), (taken s .long, s .pre .1))
+    let t = taken s in
+    ((t .shape, t .few), (t .long ∙ softLength-product _ _ (t .shape) (t .few), s .pre .1))
 
 search-requires : tie.Need-search-requires
 search-requires c κs = search needs
@@ -55,7 +57,7 @@ returns c =
     let s = start (raised found) in
     let e = c .as-correlation .ensures in
     soft-found _ _ (taken s .shape) (taken s .few) (found .search .result) (now (s .args .values))
-    (raised found .raise .ensures .1) (searched-gains found) _ _ _ (s .pre .0) (e .0) (e .1) (e .2)
+    (raised found .raise .ensures .1) (searched-gains found) _ _ _ (e .0) (e .1) (e .2)
 
 pub hear-spec : {M : Type 1} → statement M
 hear-spec =

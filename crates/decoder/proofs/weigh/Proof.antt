@@ -3,9 +3,9 @@
 use mathlib.Core.Path.{_≡_, _∙_, ap}
 use denote.Ref.{now}
 use borrow.Author.Needs.{needs}
+use Rattle.rules.proofs.RefusalLaws.{HardTaken, hard-taken}
 use Rattle.totals.specs.Gains.{hardGain, tableOf}
 use Rattle.engine.specs.Search.{searched}
-use Rattle.decoder.proofs.Taken.{HardTaken, hard-taken}
 use Rattle.decoder.proofs.Found.{hard-best-le, hard-found}
 use Rattle.decoder.proofs.weigh.Statement.{statement}
 use Rattle.decoder.proofs.weigh.Tie as tie
@@ -57,7 +57,7 @@ returns c =
     let e = c .as-distance .ensures in
     let t = taken s in
     hard-found _ _ (t .symbols .shape) (t .few) (found .search .result) (now (s .args .word)) (t .symbols .below)
-    (searched-gains found) _ _ _ (s .pre .0) (e .0) (e .1) (e .2)
+    (searched-gains found) _ _ _ (e .0) (e .1) (e .2)
 
 pub weigh-spec : {M : Type 1} → statement M
 weigh-spec = tie.close (tie.spec compare-requires search-requires as-distance-requires same-length returns)

@@ -2,8 +2,8 @@
 -- Assumes nothing.
 use mathlib.Core.Path.{sym, _∙_}
 use borrow.Author.Needs.{needs}
-use borrow.Author.Tests.{lt-leb}
-use Rattle.encoder.proofs.SentLaws.{send-allowed, sent-word}
+use Rattle.rules.proofs.RefusalLaws.{send-allowed}
+use Rattle.encoder.proofs.SentLaws.{sent-word}
 use Rattle.reader.proofs.compare.Statement.{statement}
 use Rattle.reader.proofs.compare.Tie as tie
 
@@ -28,7 +28,8 @@ returns c =
     let args = start (at-encode c) .args in
     let pre = start (at-encode c) .pre in
     let e = sent-word (at-encode c .encode .ensures)
-    (send-allowed (args .h) (args .m) _ _ (pre .0 .shape) (pre .1 .1 ∙ pre .0 .long) (lt-leb _ _ (pre .1 .0))) in
+    (send-allowed (args .h) (args .m) _ _
+    (record { shape = pre .0 .shape; long = pre .1 .1 ∙ pre .0 .long; message = pre .1 .0 })) in
     (λ t. sym e ∙ c .same .ensures .0 t, λ q. c .same .ensures .1 (e ∙ q))
 
 pub compare-spec : {M : Type 1} → statement M

@@ -2,7 +2,6 @@
 -- Assumes nothing.
 use borrow.Author.Needs.{needs}
 use Rattle.sharqudel.proofs.OutLaws.{checkedOut-given, checkedOut-refused}
-use Rattle.sharqudel.proofs.Carried.{pairOutcome-listed}
 use Rattle.sharqudel.proofs.sharqudel_check.Statement.{statement}
 use Rattle.sharqudel.proofs.sharqudel_check.Tie as tie
 
@@ -35,8 +34,7 @@ returns-3 c =
     let named = c .before .before in
     let arm = named .before .before .before in
     let told = rw (arm .why .given .1) at (arm .before .before .check .ensures) in
-    checkedOut-refused (arm .why .given .0 .0) (arm .why .given .0 .1 .0) (pairOutcome-listed _ _ _ _) told
-    (c .tell .ensures) (named .name .ensures)
+    checkedOut-refused (arm .why .given .0 .0) told (c .tell .ensures) (named .name .ensures)
 
 pub sharqudel-check-spec : {M : Type 1} → statement M
 sharqudel-check-spec =

@@ -5,8 +5,8 @@ use Rattle.sharqudel.proofs.OutLaws.{judgedOut-allowed, judgedOut-refus
 use Rattle.sharqudel.proofs.sharqudel_refusal.Statement.{statement}
 use Rattle.sharqudel.proofs.sharqudel_refusal.Tie as tie
 
-refusal-requires : tie.Need-refusal-requires
-refusal-requires c κs = search needs
+transform-requires : tie.Need-transform-requires
+transform-requires c κs = search needs
 
 enum-told : tie.Need-enum-told
 enum-told c = search needs
@@ -18,14 +18,14 @@ tell-requires : tie.Need-tell-requires
 tell-requires c κs = search needs
 
 returns : tie.Need-returns
-returns c = judgedOut-allowed (rw (c .enum-told .given .1) at (c .before .before .refusal .ensures))
+returns c = judgedOut-allowed (rw (c .enum-told .given .1) at (c .before .before .transform .ensures))
 
 returns-2 : tie.Need-returns-2
 returns-2 c =
     let arm = c .before .before .before in
-    judgedOut-refused (arm .why .given .0 .0) (rw (arm .why .given .1) at (arm .before .before .refusal .ensures))
+    judgedOut-refused (arm .why .given .0 .0) (rw (arm .why .given .1) at (arm .before .before .transform .ensures))
     (c .tell .ensures)
 
 pub sharqudel-refusal-spec : {M : Type 1} → statement M
 sharqudel-refusal-spec =
-    tie.close (tie.spec refusal-requires enum-told enum-known-why tell-requires returns returns-2)
+    tie.close (tie.spec transform-requires enum-told enum-known-why tell-requires returns returns-2)

@@ -5,8 +5,8 @@ use Rattle.sharqudel.proofs.OutLaws.{transformedOut-allowed, transforme
 use Rattle.sharqudel.proofs.sharqudel_transform.Statement.{statement}
 use Rattle.sharqudel.proofs.sharqudel_transform.Tie as tie
 
-refusal-requires : tie.Need-refusal-requires
-refusal-requires c κs = search needs
+transform-requires : tie.Need-transform-requires
+transform-requires c κs = search needs
 
 enum-told : tie.Need-enum-told
 enum-told c = search needs
@@ -33,7 +33,7 @@ returns : tie.Need-returns
 returns c =
     let ran = c .before .before in
     let arm = ran .before .before .before in
-    let told = rw (arm .enum-told .given .1) at (arm .before .before .refusal .ensures) in
+    let told = rw (arm .enum-told .given .1) at (arm .before .before .transform .ensures) in
     transformedOut-allowed _ _ _ _ _ told (ran .run .ensures)
 
 same-length-3 : tie.Need-same-length-3
@@ -45,14 +45,14 @@ same-length-4 c = search needs
 returns-2 : tie.Need-returns-2
 returns-2 c =
     let arm = c .before .before .before in
-    let told = rw (arm .why .given .1) at (arm .before .before .refusal .ensures) in
+    let told = rw (arm .why .given .1) at (arm .before .before .transform .ensures) in
     transformedOut-refused _ _ _ _ _ (arm .why .given .0 .0) told (c .tell .ensures)
 
 pub sharqudel-transform-spec : {M : Type 1} → statement M
 sharqudel-transform-spec =
     tie.close
     (tie.spec
-    refusal-requires
+    transform-requires
     enum-told
     run-requires
     add-area

@@ -2,22 +2,22 @@
 -- stages run, between areas that the answer says are fit for it.
 -- Assumes nothing.
 use mathlib.Core.Path.{_≡_, sym, _∙_, ap}
+use mathlib.Core.Bool.{true}
 use lib.ListN.{length}
 use denote.Ref.{now}
 use borrow.Author.Needs.{needs}
-use Rattle.rules.specs.Shape.{carriers}
+use Rattle.rules.specs.Shape.{inM, carriers}
 use Rattle.rules.specs.Outcome.{allowed}
 use Rattle.rules.specs.Refusal.{transformRefusal}
+use Rattle.rules.proofs.RefusalLaws.{transform-taken}
 use Rattle.shape.proofs.Powers.{power-carriers-of-inM}
-use Rattle.transform.specs.Told.{judgedTold}
-use Rattle.transform.specs.Steps.{Taken}
-use Rattle.transform.proofs.Outcomes.{refusal-taken}
+use Rattle.kinds.specs.Refusals.{judgedTold}
 use Rattle.transform.proofs.Parts.{ran-refused, ran-allowed}
 use Rattle.transform.proofs.run.Statement.{statement}
 use Rattle.transform.proofs.run.Tie as tie
 
-refusal-requires : tie.Need-refusal-requires
-refusal-requires c κs = search needs
+transform-requires : tie.Need-transform-requires
+transform-requires c κs = search needs
 
 enum-told : tie.Need-enum-told
 enum-told c = search needs
@@ -30,7 +30,7 @@ same-length-2 c = search needs
 
 returns : tie.Need-returns
 returns c =
-    let asked = c .before .before .refusal in
+    let asked = c .before .before .transform in
     ran-refused _ _ _ _ _ (sym (asked .ensures) ∙ ap judgedTold (c .enum-told .given .1))
 
 enum-told-2 : tie.Need-enum-told-2
@@ -45,21 +45,19 @@ start c = c .before .before .before .before .before
 
 granted : (c : tie.After-enum-told2) → let args = start c .args in
     transformRefusal (args .m) (now (args .first)) (length (now (args .second))) ≡ allowed
-granted c = sym (c .before .before .refusal .ensures) ∙ ap judgedTold (c .enum-told2 .given .1)
+granted c = sym (c .before .before .transform .ensures) ∙ ap judgedTold (c .enum-told2 .given .1)
 
-taken : (c : tie.After-enum-told2) → let args = start c .args in
-    Taken (args .m) (now (args .first)) (now (args .second))
-taken c =
-    let args = start c .args in
-    refusal-taken (args .m) (now (args .first)) (now (args .second)) (granted c)
+-- so m is in range
+ranged : (c : tie.After-enum-told2) → inM (start c .args .m) ≡ true
+ranged c = let args = start c .args in transform-taken (args .m) (now (args .first)) (now (args .second)) (granted c) .range
 
 n-is : (c : tie.After-power) → c .power .result ≡ carriers (start (c .before) .args .m)
-n-is c = c .power .ensures ∙ power-carriers-of-inM _ (taken (c .before) .range)
+n-is c = c .power .ensures ∙ power-carriers-of-inM _ (ranged (c .before))
 
 rounds-requires : tie.Need-rounds-requires
 rounds-requires c κs =
     let at-power = c .before .before in
-    (taken (at-power .before), n-is at-power)
+    (granted (at-power .before), n-is at-power)
 
 same-length-3 : tie.Need-same-length-3
 same-length-3 c = search needs
@@ -78,7 +76,7 @@ pub run-spec : {M : Type 1} → statement M
 run-spec =
     tie.close
     (tie.spec
-    refusal-requires
+    transform-requires
     enum-told
     same-length
     same-length-2

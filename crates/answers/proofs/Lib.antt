@@ -1,0 +1,2 @@
+-- Laws of answers, and of the promises over them.
+pub mod Unique
