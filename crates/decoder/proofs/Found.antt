@@ -36,7 +36,7 @@ use Rattle.totals.proofs.Answers.{loud-of-totals, near-of-totals}
 use Rattle.standing.specs.declared.Standing.{Standing}
 use Rattle.standing.specs.Lead.{lead, tiedOf}
 use Rattle.standing.proofs.Leading.{lead-best, lead-tied}
-use Rattle.engine.specs.Search.{mostGain, accepts, searched}
+use Rattle.engine.specs.Search.{greatestDecoded, mostGain, accepts, searched}
 use Rattle.engine.proofs.Accepting.{accepts-small, searched-is}
 
 -- what the search answers, with the best total as its value
@@ -114,7 +114,7 @@ module _ (h m : ℕ) (ok : inShape h m ≡ true) (two : h ≤ 2) (st : Standing)
     matched = search-leads h m (halfTurn h) (hardGain h w) (hardGain-le h w) ok two top st q
       where
         top : halfTurn h ≤ mostGain
-        top = pow-mono {i = h - 1} {j = 25} (omega (arith, two))
+        top = omega (arith, pow-mono {i = h - 1} {j = greatestDecoded - 1} (omega (arith, two)))
 
     pub hard-best-le : st .best ≤ carriers m * halfTurn h
     hard-best-le = matched .1

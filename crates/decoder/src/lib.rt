@@ -7,6 +7,7 @@ use answers::Closest;
 use answers::Heard;
 use answers::Loudest;
 use answers::Matched;
+use engine::GREATEST_DECODED;
 use kinds::Judged;
 use shape::PLACES;
 use standing::Standing;
@@ -26,8 +27,8 @@ ghost use Rattle.answers.specs.Decoded.{loudestTold, closestTold, Hears, Matche
 ghost use Rattle.totals.specs.Gains.{raiseBy, raised, softGain, hardGain, nearness, tableOf};
 ghost use Rattle.standing.specs.Lead.{tiedOf};
 
-// The greatest table of gains: a run of places for each of four symbols.
-const GAINS: usize = PLACES * 4;
+// The greatest table of gains: a run of places for each symbol of the most phases that are decoded.
+const GAINS: usize = PLACES << GREATEST_DECODED;
 
 // What a soft value is raised by, so that it is never below zero: the size of the least of them.
 const RAISE_BY: i32 = 32768;

@@ -23,11 +23,12 @@ use Rattle.places.proofs.Twins.{carriers-blocks}
 use Rattle.paths.proofs.Members.{pathAt-isPath}
 use Rattle.paths.proofs.Links.{path-of-links}
 use Rattle.paths.proofs.Increasing.{pathAt-inj}
+use Rattle.paths.proofs.Number.{used-lt}
 use Rattle.signals.proofs.Weights.{Weight, weigh, differs, differs-one, differs-weight, hamming-weigh}
 use Rattle.signals.proofs.Weights.{lee-weight, lee-weigh}
 use Rattle.signals.proofs.Metric.{distance-weigh}
 use Rattle.words.proofs.Labels.{label-inj, labelPath-lt}
-use Rattle.words.proofs.Used.{used-lt, isPath-good}
+use Rattle.words.proofs.Used.{isPath-good}
 use Rattle.distances.proofs.Gaps.{Positive}
 use Rattle.distances.proofs.Parts.{apart, pairLinks, apart-of-links, apart-of-coefficient, apart-of-constant}
 

@@ -20,9 +20,9 @@ use Rattle.rules.specs.Word.{wordAt, wordOf}
 use Rattle.rules.proofs.Range.{inM-least}
 use Rattle.rules.proofs.SymbolLaws.{wordAt-lt}
 use Rattle.rules.proofs.Messages.{labelOf-inj, labelOf-lt}
+use Rattle.paths.proofs.Number.{used-lt}
 use Rattle.signals.proofs.Weights.{differs, differs-weight, hamming-weigh, weigh-zero-of-agree}
 use Rattle.words.proofs.Labels.{labelPath-lt}
-use Rattle.words.proofs.Used.{used-lt}
 use Rattle.words.proofs.Forms.{wordOf-at}
 use Rattle.distances.proofs.Apart.{hamming-listed}
 

@@ -7,22 +7,23 @@ use native.Mathlib.Numerals.{add-one}
 use native.Mathlib.Omega.{arith}
 use mathlib.Core.Path.{_≡_, refl, sym, _∙_, ap, ap₂, subst}
 use mathlib.Core.List.{List, [], _∷_}
-use lib.ListN.{length, getD}
+use lib.ListN.{length, getD, replicate}
 use Rattle.range.specs.Below.{sumBelow, listBelow}
 use Rattle.range.proofs.Sums.{sumBelow-cong}
-use Rattle.range.proofs.Lists.{listBelow-at, listBelow-cong}
+use Rattle.range.proofs.Lists.{listBelow-cong}
+use Rattle.range.proofs.Filled.{filled-at}
 use Rattle.rules.specs.Shape.{greatestM, phases, halfTurn, carriers}
 use Rattle.rules.specs.Place.{digit, generatorAt}
 use Rattle.rules.specs.Path.{IsPath, pathAt, headOf}
 use Rattle.rules.specs.Label.{labels, labelPath, labelOf, rowCoefficient}
 use Rattle.rules.specs.Word.{links, wordAt, partnerAt, wordOf, partnerOf}
 use Rattle.rules.proofs.Range.{InRange, range-inM, phases-by-two, phases-most, carriers-most}
-use Rattle.paths.specs.Steps.{pathRow}
 use Rattle.paths.proofs.Members.{isPath-in}
 use Rattle.words.proofs.Labels.{coefficient-lt, constant-lt}
 use Rattle.words.proofs.Forms.{formAt-rows, partnerAt-form}
 use Rattle.words.proofs.Used.{labelPath-isPath}
 use Rattle.words.proofs.Partners.{headOf-at}
+use Rattle.steps.specs.Steps.{pathRow}
 use Rattle.encoder.specs.Steps.{generatorRows, cell, linearOf, linksOf, symbolOf, liftedAt, Cells, Small, Walk}
 use Rattle.encoder.proofs.Matrix.{generatorAt-digit, generatorRows-at, generatorRows-cells}
 
@@ -52,7 +53,7 @@ module _ (h m l : ℕ) (range : InRange h m) (used : l < labels h m) where
   -- the steps as code holds them
   step-at : (k : ℕ) → k < m → getD (pathRow m (labelPath h m l)) k 0 ≡ getD path k 0
   unfolding pathRow
-  step-at k h₁ = listBelow-at greatestM (λ j. getD path j 0) k 0 (omega (arith, range .m-most))
+  step-at k h₁ = filled-at m (λ j. getD path j 0) (replicate greatestM 0) k 0 h₁
 
   step-in : (k : ℕ) → k < m → (1 ≤ getD path k 0) × (getD path k 0 ≤ m)
   step-in k h₁ = isPath-in m path path-is k (omega (arith, path-is .long))

@@ -76,7 +76,7 @@ fn fill(h: u32, m: u32, label: u64, lift: u32, out: &mut [u8])
     let n = t.path;
     let c = t.c;
     let g = generator(m);
-    let p = paths::steps(m, n);
+    let p = steps::steps(m, n);
     combine(g, p, c, m, q, lift * (q / 2), out);
 }
 

@@ -1,5 +1,5 @@
--- The labels of all paths: specs/Tables.antt, AllPaths. In order: all labels are those of the paths in use, and they
--- can be counted; the areas have room for each shape; one path of all may be searched.
+-- The labels of all paths: specs/Tables.antt, AllPaths. In order: all labels are those of the paths in use; the areas
+-- have room for each shape; one path of all may be searched.
 -- Not here: the labels of one path (PathLaws).  Assumes nothing.
 use Prim.Native.Nat.{ℕ, _+_, _*_, _^_, _≤_, _<_}
 use native.Mathlib.Nat.{pow-le-pow-left, pow-le-pow-right}
@@ -11,8 +11,8 @@ use lib.ListN.{length}
 use lib.Pow.{pow-mono, pow-add}
 use Rattle.rules.specs.Shape.{greatestM, phases, pathsInUse, pathBits}
 use Rattle.rules.specs.Label.{labels}
-use Rattle.rules.proofs.Range.{InRange, inShape-range, messageBits-le}
-use Rattle.words.proofs.Labels.{phases-pow}
+use Rattle.rules.proofs.Range.{InRange, inShape-range, phases-pow}
+use Rattle.engine.specs.Search.{greatestDecoded}
 use Rattle.engine.specs.Tables.{area, AllPaths, OnePath}
 
 -- all labels are those of the paths in use
@@ -23,15 +23,12 @@ pub all-labels : {h m q half size uses : ℕ} {g w xs ys : List ℕ} → AllPath
     uses * size ≡ labels h m
 all-labels {h = h} {m = m} p = rw (p .used, p .sized) (labels-paths h m)
 
--- and they can be counted
-pub labels-le : (h m : ℕ) → InRange h m → labels h m ≤ 2 ^ 32
-labels-le h m r = omega (arith, pow-mono (messageBits-le h m r))
-
 -- the areas have room for the greatest shape, and so for each
-area-le : (h m : ℕ) → InRange h m → h ≤ 2 → 2 * phases h ^ m ≤ area
+area-le : (h m : ℕ) → InRange h m → h ≤ greatestDecoded → 2 * phases h ^ m ≤ area
 area-le h m r b =
-    let a : phases h ^ m ≤ phases 2 ^ m = pow-le-pow-left (pow-mono b) m in
-    let c : phases 2 ^ m ≤ phases 2 ^ greatestM = pow-le-pow-right {n = phases 2} (lit≤ tt) (r .m-most) in
+    let q : ℕ = phases greatestDecoded in
+    let a : phases h ^ m ≤ q ^ m = pow-le-pow-left (pow-mono b) m in
+    let c : q ^ m ≤ q ^ greatestM = pow-le-pow-right {n = q} (lit≤ tt) (r .m-most) in
     omega arith
 
 -- one path of all, the one with number n

@@ -17,7 +17,7 @@ use Rattle.range.proofs.Lists.{length-listBelow, listBelow-at}
 use Rattle.rules.specs.Shape.{phases, carriers, pathsInUse}
 use Rattle.rules.specs.Label.{labels}
 use Rattle.rules.specs.Word.{wordAt}
-use Rattle.rules.proofs.Range.{InRange, inShape-range, phases-least}
+use Rattle.rules.proofs.Range.{InRange, inShape-range, phases-least, messages-most}
 use Rattle.rules.proofs.SymbolLaws.{wordAt-lt}
 use Rattle.totals.specs.Totals.{totalOf}
 use Rattle.totals.specs.Climb.{gainsWithAt, gainsWith, climbs, byLabel}
@@ -26,9 +26,10 @@ use Rattle.totals.proofs.Totals.{byLabel-total}
 use Rattle.standing.specs.declared.Standing.{Standing}
 use Rattle.standing.specs.Lead.{leadFrom}
 use Rattle.standing.proofs.Lead.{leadFrom-cong}
+use Rattle.engine.specs.Search.{mostLabels}
 use Rattle.engine.specs.Tables.{mostTotal, Runs, WordFits, tableIn, Climbing, OnePath}
 use Rattle.engine.proofs.Climbing.{wanted}
-use Rattle.engine.proofs.AllPaths.{labels-paths, labels-le}
+use Rattle.engine.proofs.AllPaths.{labels-paths}
 
 module _ (h m q half l : ℕ) (g w xs ys : List ℕ) (p : OnePath h m q half l g w xs ys) where
   range : InRange h m
@@ -122,8 +123,8 @@ module _ (h m q half l : ℕ) (g w xs ys : List ℕ) (p : OnePath h m q half l g
             counted = omega (arith, counted-labels);
           }
         where
-          counted-labels : l + 1 * q ^ suc (m - 1) * q ≤ 2 ^ 32
-          counted-labels = omega (arith, path-labels, size, labels-le h m range)
+          counted-labels : l + 1 * q ^ suc (m - 1) * q ≤ mostLabels
+          counted-labels = omega (arith, path-labels, size, messages-most h m range)
 
       pub path-returned : (st r : Standing) → r ≡ wanted q half 1 l zs st (m - 1) →
           r ≡ leadFrom l (λ j. totalOf h m g (l + j)) (phases h ^ (m + 1)) st

@@ -1,6 +1,7 @@
 -- What a search through all labels promises.
 -- Defines:  greatestDecoded     the greatest h that the tables have room for
 --           mostGain            the greatest gain that is taken
+--           mostLabels          how many labels the greatest shape has, so that a label number is below it
 --           accepts h m g       whether g is a table of gains that can be searched for the shape
 --           searched h m g      the standing after all labels; nobody leads where g is not accepted
 -- Assumes nothing: these are definitions.
@@ -10,7 +11,7 @@ use mathlib.Core.List.{List}
 use lib.Dec.{eqb, leb}
 use lib.ListN.{length, getD}
 use Rattle.range.specs.Below.{allBelow}
-use Rattle.rules.specs.Shape.{inShape, phases, carriers}
+use Rattle.rules.specs.Shape.{inShape, phases, carriers, mostBits}
 use Rattle.rules.specs.Label.{labels}
 use Rattle.totals.specs.Totals.{totalOf}
 use Rattle.standing.specs.declared.Standing.{Standing}
@@ -21,6 +22,9 @@ greatestDecoded = 2
 
 abbrev pub mostGain : ℕ
 mostGain = 2 ^ 25
+
+abbrev pub mostLabels : ℕ
+mostLabels = 2 ^ mostBits
 
 unfoldable pub accepts : ℕ → ℕ → List ℕ → Bool
 accepts h m g =

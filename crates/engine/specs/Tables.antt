@@ -18,7 +18,7 @@ use mathlib.Core.Bool.{true}
 use mathlib.Core.List.{List}
 use lib.ListN.{length, getD, take}
 use Rattle.rules.specs.Shape.{greatestM, inShape, phases, carriers, pathsInUse}
-use Rattle.engine.specs.Search.{greatestDecoded}
+use Rattle.engine.specs.Search.{greatestDecoded, mostLabels}
 
 -- 2 q^m for the most symbols that are decoded and the greatest m
 abbrev pub area : ℕ
@@ -47,7 +47,7 @@ pub record Climbing (d q half w l : ℕ) (xs ys : List ℕ) : Type 0 where
   pub runs : Runs q half w (tableIn q half w xs)
   pub first : 2 * q * w * q ^ d ≤ length xs
   pub second : 2 * q * w * q ^ d ≤ length ys
-  pub counted : l + w * q ^ suc d * q ≤ 2 ^ 32
+  pub counted : l + w * q ^ suc d * q ≤ mostLabels
 
 pub record Rooms (m : ℕ) (w xs ys : List ℕ) : Type 0 where
   pub word : length w ≡ carriers m

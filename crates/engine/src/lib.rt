@@ -7,6 +7,7 @@ mod scan;
 mod stages;
 mod turning;
 
+use kinds::MessageNumber;
 use shape::GREATEST_M;
 use shape::PLACES;
 use standing::Standing;
@@ -22,11 +23,11 @@ ghost use Rattle.rules.specs.Word.{wordAt};
 ghost use Rattle.totals.specs.Totals.{totalOf};
 ghost use Rattle.totals.specs.Climb.{gainsWith, climbed, climbs, byLabel};
 ghost use Rattle.standing.specs.Lead.{leadFrom, lead};
-ghost use Rattle.engine.specs.Search.{mostGain, accepts, searched};
+ghost use Rattle.engine.specs.Search.{mostGain, mostLabels, accepts, searched};
 ghost use Rattle.engine.specs.Tables.{Rooms, Runs, WordFits, Climbing, AllPaths, OnePath, tableIn};
 
 // The greatest h that the tables have room for, and the room: 2 q^m numbers.
-const GREATEST_DECODED: u32 = 2;
+pub const GREATEST_DECODED: u32 = 2;
 
 const AREA: usize = 2 << (GREATEST_DECODED * GREATEST_M);
 
@@ -154,7 +155,8 @@ fn own_word(h: u32, m: u32, label: u64, word: &mut [u8])
     requires { ⌜ (inShape h m ≡ true) × (label < labels h m) × (length (now word) ≡ carriers m) ⌝ }
     ensures { λ _. ⌜ now (word .exit) ≡ listBelow (carriers m) (wordAt h m label) ⌝ }
 {
-    encoder::encode(h, m, shape::message_of(h, m, label), word);
+    let message: MessageNumber = shape::message_of(h, m, label);
+    encoder::encode(h, m, message, word);
 }
 
 // The first table, at the front of x.
@@ -208,7 +210,7 @@ fn rise(q: usize, half: usize, w: usize, x: &[u32], y: &mut [u32])
 // The last stage of the table at the front of x, and its labels.
 fn finish(q: usize, w: usize, first: u64, x: &[u32], before: Standing) -> Standing
     requires { ⌜ Runs q 1 w (tableIn q 1 w (now x)) ⌝ }
-    requires { ⌜ first + q * (w * q) ≤ 2 ^ 32 ⌝ }
+    requires { ⌜ first + q * (w * q) ≤ mostLabels ⌝ }
     ensures { λ r. ⌜ r ≡ leadFrom first (byLabel q (w * q) (climbed q 1 w (tableIn q 1 w (now (x .entry)))))
         (q * (w * q)) before ⌝ }
 {

@@ -1,11 +1,12 @@
 // Takes the pieces of a line: a name, a number, and, in other modules, a word and a list. Each is taken from where the
 // one before it ends. Where one is not there, none after it is, so that a call asks only at the end of its line whether
 // all was there.
+use shape::PLACES;
 ghost use Prim.Native.Nat.{_≤_};
 ghost use mathlib.Core.Path.{_≡_};
 
-// Most symbols of a word, and most numbers of a list.
-pub const MOST: usize = 128;
+// Most symbols of a word, and most numbers of a list: twice the longest slice that a call takes.
+pub const MOST: usize = 4 * PLACES;
 
 const LARGEST_32: u64 = 4294967295;
 

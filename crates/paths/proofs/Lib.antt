@@ -1,4 +1,4 @@
--- Laws of all paths, and of the table of those in use.
+-- Laws of all paths.
 pub mod Times
 pub mod Listed
 pub mod Orders
@@ -11,4 +11,3 @@ pub mod Links
 pub mod Counts
 pub mod Reversed
 pub mod Number
-pub mod PathTable

@@ -1,10 +1,10 @@
 -- How many paths there are: m ! / 2, for every m from 2 on; and the twelve of m = 4, written out.
 -- In order: the orders of n numbers are n ! many; tests of order; the orders of 1, .., m, none twice,
--- as many rising from first to last as falling; the law; the paths in use are among them, and w is the greatest that
--- lets them; the paths of 4.
+-- as many rising from first to last as falling; the law; the paths in use are among them, and are paths; w is the
+-- greatest that lets them; the paths of 4.
 -- Not here: which lists are paths (Members), their order (Increasing).  Assumes nothing.
 use Prim.Native.Nat.{ℕ, zero, suc, _+_, _-_, _*_, _≤_, _<_}
-use native.Mathlib.Nat.{le-antisymm}
+use native.Mathlib.Nat.{le-antisymm, lt-of-lt-of-le}
 use native.Mathlib.Decide.{decLt}
 use native.Mathlib.Omega.{arith}
 use mathlib.Core.Path.{_≡_, refl, _∙_, ap, subst}
@@ -18,11 +18,12 @@ use Rattle.range.specs.Below.{_!, listBelow, allBelow}
 use Rattle.range.proofs.Tests.{and-left, and-right, allBelow-at}
 use Rattle.rules.specs.Shape.{greatestM, inM, pathsInUse, pathBits}
 use Rattle.rules.proofs.Range.{inM-least, inM-le}
-use Rattle.rules.specs.Path.{headOf, lastOf, keep, without, orders, upTo, paths, Before}
+use Rattle.rules.specs.Path.{IsPath, headOf, lastOf, keep, without, orders, upTo, paths, pathAt, Before}
 use Rattle.rules.proofs.OrderLaws.{before-distinct}
 use Rattle.paths.proofs.Times.{Distinct, distinct-once, distinct-without, length-without}
 use Rattle.paths.proofs.Orders.{IsOrder, orders-isOrder, isOrder-orders}
 use Rattle.paths.proofs.UpTo.{length-upTo, upTo-distinct}
+use Rattle.paths.proofs.Members.{pathAt-isPath}
 use Rattle.paths.proofs.Sorted.{sorted-imp}
 use Rattle.paths.proofs.Increasing.{upTo-sorted, orders-sorted}
 use Rattle.paths.proofs.Counts.{Single, length-flatMap, length-keep-not, length-keep-le}
@@ -119,6 +120,12 @@ unfolding enough
 pathsInUse-le m t =
     let b : 2 * pathsInUse m ≤ m ! = leb-true _ _ (and-left (enough m) (short m) (fits-at m t)) in
     omega (arith, length-paths m (inM-least m t))
+
+pub used-lt : (m n : ℕ) → T (inM m) → n < pathsInUse m → n < length (paths m)
+used-lt m n range h = lt-of-lt-of-le h (pathsInUse-le m range)
+
+pub used-isPath : (m n : ℕ) → T (inM m) → n < pathsInUse m → IsPath m (pathAt m n)
+used-isPath m n range h = pathAt-isPath m n (used-lt m n range h)
 
 -- and one bit more would not do: w is the greatest
 pub pathsInUse-most : (m : ℕ) → T (inM m) → length (paths m) < 2 * pathsInUse m

@@ -20,7 +20,7 @@ use borrow.Author.Tests.{eq-eqb, eqb-true}
 use Rattle.range.specs.Below.{allBelow}
 use Rattle.range.proofs.Tests.{false-of-not-true, allBelow-of, allBelow-at, firstBelow-some, firstBelow-none}
 use Rattle.range.proofs.Tests.{firstBelow-at, firstBelow-nowhere}
-use Rattle.rules.specs.Shape.{phases, carriers, pathsInUse, messages}
+use Rattle.rules.specs.Shape.{phases, carriers, pathsInUse, messages, mostCoefficientBits}
 use Rattle.rules.specs.Label.{labels, labelPath, coefficient, constant, labelOf, messageOf}
 use Rattle.rules.specs.Symbols.{Symbols}
 use Rattle.rules.specs.Word.{wordAt, wordOf}
@@ -28,10 +28,10 @@ use Rattle.rules.specs.Pair.{minus}
 use Rattle.rules.specs.Symbols.{Symbols}
 use Rattle.rules.specs.Word.{symbolAt}
 use Rattle.rules.specs.Table.{messageWith}
-use Rattle.rules.proofs.Range.{InRange, inShape-range, range-inM, coefficientBits-le, mostCoefficientBits}
+use Rattle.rules.proofs.Range.{InRange, inShape-range, range-inM, coefficientBits-le, phases-pow}
 use Rattle.rules.proofs.Differences.{minus-lt}
 use Rattle.places.proofs.Digits.{one-lt}
-use Rattle.words.proofs.Labels.{phases-pow, numberOf, numberOf-lt, numberOf-back, labelPath-lt}
+use Rattle.words.proofs.Labels.{numberOf, numberOf-lt, numberOf-back, labelPath-lt}
 use Rattle.rules.proofs.Messages.{labelOf-lt}
 use Rattle.rules.proofs.Messages.{messageOf-labelOf}
 use Rattle.words.proofs.Horner.{numberOf-split, numberOf-cong}

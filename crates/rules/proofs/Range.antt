@@ -1,21 +1,22 @@
 -- Bounds that a shape in range gives.
--- In order: the ranges of h and m; w; the bits of a message number; the phases and half of them, the carriers, the
--- paths in use.
+-- In order: the ranges of h and m; w; the bits of a message number; the phases, their powers and half of them, the
+-- carriers, the paths in use, the messages.
 -- Assumes nothing.
-use Prim.Native.Nat.{ℕ, suc, _+_, _-_, _*_, _/_, _^_, _≤_, _<_}
-use native.Mathlib.Nat.{mul-le-mul, pow-succ'}
+use Prim.Native.Nat.{ℕ, zero, suc, _+_, _-_, _*_, _/_, _^_, _≤_, _<_}
+use native.Mathlib.Nat.{mul-le-mul, mul-zero, mul-suc, pow-zero, pow-suc, pow-succ'}
 use native.Mathlib.Decide.{decLt}
 use native.Mathlib.Omega.{arith}
 use mathlib.Core.Path.{_≡_, refl, sym, _∙_, ap, subst}
 use mathlib.Core.Bool.{Bool, true, false, _&&_}
 use lib.Dec.{T, leb, leb→le, lit≤}
 use lib.ListN.{length, getD, List·getD-eq-default}
-use lib.Pow.{pow-mono}
+use lib.Pow.{pow-mono, pow-add}
 use borrow.Author.Tests.{leb-true, le-leb}
 use Rattle.range.specs.Below.{allBelow}
 use Rattle.range.proofs.Tests.{and-left, and-right, and-of, allBelow-at}
 use Rattle.rules.specs.Shape.{greatestH, greatestM, pathBits, inH, inM, inShape, phases, carriers, pathsInUse}
-use Rattle.rules.specs.Shape.{pathWidths, messageBits, halfTurn}
+use Rattle.rules.specs.Shape.{pathWidths, messageBits, messages, halfTurn}
+use Rattle.rules.specs.Shape.{mostPathBits, mostCoefficientBits, mostBits}
 
 pub record InRange (h m : ℕ) : Type 0 where
   pub h-least : 1 ≤ h
@@ -41,9 +42,12 @@ inShape-range h m e =
       m-most = inM-range m b .1;
     }
 
+pub inM-of : (m : ℕ) → 2 ≤ m → m ≤ greatestM → T (inM m)
+inM-of m least most =
+    subst T (sym (and-of (leb 2 m) (leb m greatestM) (le-leb 2 m least) (le-leb m greatestM most))) tt
+
 pub range-inM : (h m : ℕ) → InRange h m → T (inM m)
-range-inM h m r =
-    subst T (sym (and-of (leb 2 m) (leb m greatestM) (le-leb 2 m (r .m-least)) (le-leb m greatestM (r .m-most)))) tt
+range-inM h m r = inM-of m (r .m-least) (r .m-most)
 
 T-left : (a b : Bool) → T (a && b) → T a
 T-left true b t = tt
@@ -58,16 +62,6 @@ inM-least m t = leb→le 2 m (T-left (leb 2 m) (leb m greatestM) t)
 
 pub inM-le : (m : ℕ) → T (inM m) → m ≤ greatestM
 inM-le m t = leb→le m greatestM (T-right (leb 2 m) (leb m greatestM) t)
-
--- what the greatest shape has: w, the bits of the coefficients and the constant, of a message number
-abbrev pub mostPathBits : ℕ
-mostPathBits = getD pathWidths (greatestM - 2) 0
-
-abbrev pub mostCoefficientBits : ℕ
-mostCoefficientBits = greatestH * (greatestM + 1)
-
-abbrev pub mostBits : ℕ
-mostBits = mostPathBits + mostCoefficientBits
 
 -- no entry of the table is above that of the greatest m
 entry-test : allBelow (length pathWidths) (λ i. leb (getD pathWidths i 0) mostPathBits) ≡ true
@@ -94,6 +88,10 @@ coefficientBits-le h m r =
 pub messageBits-le : (h m : ℕ) → InRange h m → messageBits h m ≤ mostBits
 messageBits-le h m r = omega (arith, pathBits-le m, coefficientBits-le h m r)
 
+pub phases-pow : (h j : ℕ) → phases h ^ j ≡ 2 ^ (h * j)
+phases-pow h zero = rw (pow-zero, mul-zero)
+phases-pow h (suc j) = rw (pow-suc, mul-suc, phases-pow h j) (sym (pow-add 2 (h * j) h))
+
 -- 2^h is twice 2^(h-1)
 pub phases-half : (h : ℕ) → 1 ≤ h → phases h ≡ 2 * halfTurn h
 phases-half h b =
@@ -114,3 +112,6 @@ carriers-most h m r = pow-mono (r .m-most)
 
 pub pathsInUse-most : (m : ℕ) → pathsInUse m ≤ 2 ^ mostPathBits
 pathsInUse-most m = pow-mono {i = pathBits m} {j = mostPathBits} (pathBits-le m)
+
+pub messages-most : (h m : ℕ) → InRange h m → messages h m ≤ 2 ^ mostBits
+messages-most h m r = pow-mono {i = messageBits h m} {j = mostBits} (messageBits-le h m r)

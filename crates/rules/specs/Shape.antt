@@ -7,6 +7,8 @@
 --           pathsInUse m             2^w
 --           messageBits h m          w + h (m + 1)
 --           messages h m             how many message numbers there are: 2^(w + h (m + 1))
+--           mostPathBits, mostCoefficientBits, mostBits    what the greatest shape has: w, the bits of the coefficients
+--                                    and the constant, the bits of a message number
 -- Assumes nothing: these are definitions.
 use Prim.Native.Nat.{ℕ, _+_, _-_, _*_, _^_}
 use mathlib.Core.Bool.{Bool, _&&_}
@@ -53,3 +55,12 @@ messageBits h m = pathBits m + h * (m + 1)
 
 abbrev pub messages : ℕ → ℕ → ℕ
 messages h m = 2 ^ messageBits h m
+
+abbrev pub mostPathBits : ℕ
+mostPathBits = getD pathWidths (greatestM - 2) 0
+
+abbrev pub mostCoefficientBits : ℕ
+mostCoefficientBits = greatestH * (greatestM + 1)
+
+abbrev pub mostBits : ℕ
+mostBits = mostPathBits + mostCoefficientBits

@@ -4,7 +4,7 @@
 use kinds::MessageNumber;
 ghost use Prim.Native.Nat.{_^_, min};
 ghost use mathlib.Core.Path.{_≡_};
-ghost use mathlib.Core.Bool.{cond};
+ghost use mathlib.Core.Bool.{true, false, cond};
 ghost use lib.Dec.{ltb};
 ghost use Rattle.rules.specs.Shape.{pathBits, inM, inShape};
 ghost use Rattle.rules.specs.Label.{labelOf, messageOf};
@@ -68,15 +68,16 @@ pub fn path_bits(m: u32) -> u32
     if at < STEPS - 1 { PATH_BITS[at] } else { 0 }
 }
 
-// The label number of a message number, and back. Today they are the same number.
+// The label number of a message number, and back, where the shape is in range; else the number itself. Today they are
+// the same number.
 pub fn label_of(h: u32, m: u32, message: MessageNumber) -> u64
-    ensures { λ r. ⌜ r ≡ labelOf h m (message .0) ⌝ }
+    ensures { λ r. ⌜ (inShape h m ≡ true → r ≡ labelOf h m (message .0)) × (inShape h m ≡ false → r ≡ message .0) ⌝ }
 {
     message.0
 }
 
 pub fn message_of(h: u32, m: u32, label: u64) -> MessageNumber
-    ensures { λ r. ⌜ r .0 ≡ messageOf h m label ⌝ }
+    ensures { λ r. ⌜ (inShape h m ≡ true → r .0 ≡ messageOf h m label) × (inShape h m ≡ false → r .0 ≡ label) ⌝ }
 {
     MessageNumber(label)
 }

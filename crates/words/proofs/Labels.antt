@@ -1,9 +1,9 @@
 -- Laws of label numbers: rules' Label. A label number is a numeral to base 2^h: the path number, then the coefficients
--- c_1, .., c_m, then the constant, which stands lowest. In order: powers; bounds; the parts of a label without its
+-- c_1, .., c_m, then the constant, which stands lowest. In order: bounds; the parts of a label without its
 -- lowest digit; the parts determine the label; the number of given parts, and its parts; the bits of a message number.
 -- Not here: message numbers (rules, Messages), label order (Order), words (Readings).  Assumes nothing.
 use Prim.Native.Nat.{ℕ, zero, suc, _+_, _-_, _*_, _/_, _%_, _^_, _≤_, _<_}
-use native.Mathlib.Nat.{pow-zero, pow-suc, pow-succ', mul-zero, mul-suc, mod-lt, div-div-eq-div-mul, div-add-mod'}
+use native.Mathlib.Nat.{pow-zero, pow-succ', mul-suc, mod-lt, div-div-eq-div-mul, div-add-mod'}
 use native.Mathlib.Nat.{le-refl, div-one, mul-one, mul-comm, suc-mul}
 use native.Mathlib.Decide.{ℕ-discrete}
 use native.Mathlib.Omega.{arith}
@@ -12,10 +12,7 @@ use lib.Arith.{digits-lt, digits-div, digits-mod}
 use lib.Pow.{pow-pos, pow-add, shr-lt}
 use Rattle.rules.specs.Shape.{phases, pathsInUse, pathBits}
 use Rattle.rules.specs.Label.{labels, labelPath, coefficient, constant, labelOf}
-
-pub phases-pow : (h j : ℕ) → phases h ^ j ≡ 2 ^ (h * j)
-phases-pow h zero = rw (pow-zero, mul-zero)
-phases-pow h (suc j) = rw (pow-suc, mul-suc, phases-pow h j) (sym (pow-add 2 (h * j) h))
+use Rattle.rules.proofs.Range.{phases-pow}
 
 pub coefficient-lt : (h m l k : ℕ) → coefficient h m l k < phases h
 unfolding coefficient

@@ -1,6 +1,5 @@
 -- Laws of labels and words.
 pub mod Labels
-pub mod Powers
 pub mod Horner
 pub mod Order
 pub mod Forms

@@ -1,23 +1,16 @@
--- What is known of the paths in use, for every m in range: each is a path, and its neighbours differ.
+-- The path of a label of the shape, for every m in range: it is a path, and its neighbours differ.
 -- Not here: the laws of all paths (crate paths).  Assumes nothing.
 use Prim.Native.Nat.{ℕ, suc, _<_}
-use native.Mathlib.Nat.{le-refl, lt-of-lt-of-le}
+use native.Mathlib.Nat.{le-refl}
 use mathlib.Core.List.{List}
 use lib.Dec.{T}
-use lib.ListN.{length}
-use Rattle.rules.specs.Shape.{inM, pathsInUse}
-use Rattle.rules.specs.Path.{IsPath, paths, pathAt}
+use Rattle.rules.specs.Shape.{inM}
+use Rattle.rules.specs.Path.{IsPath, pathAt}
 use Rattle.rules.specs.Label.{labels, labelPath}
-use Rattle.paths.proofs.Members.{pathAt-isPath, isPath-in, isPath-distinct}
-use Rattle.paths.proofs.Number.{pathsInUse-le}
+use Rattle.paths.proofs.Members.{isPath-in, isPath-distinct}
+use Rattle.paths.proofs.Number.{used-isPath}
 use Rattle.words.proofs.Labels.{labelPath-lt}
 use Rattle.words.proofs.Readings.{Good}
-
-pub used-lt : (m n : ℕ) → T (inM m) → n < pathsInUse m → n < length (paths m)
-used-lt m n range h = lt-of-lt-of-le h (pathsInUse-le m range)
-
-used-isPath : (m n : ℕ) → T (inM m) → n < pathsInUse m → IsPath m (pathAt m n)
-used-isPath m n range h = pathAt-isPath m n (used-lt m n range h)
 
 pub isPath-good : (m : ℕ) (p : List ℕ) → IsPath m p → Good m p
 isPath-good m p s = record {

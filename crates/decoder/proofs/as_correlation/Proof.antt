@@ -21,7 +21,7 @@ use Rattle.decoder.proofs.as_correlation.Tie as tie
 power-requires : tie.Need-power-requires
 power-requires c κs = search needs
 
--- n is N, at most 32
+-- n is N, at most that of the greatest m
 places : (c : tie.After-power) → c .power .result ≡ carriers (c .before .args .m)
 places c = c .power .ensures ∙ power-carriers (c .before .args .h) (c .before .args .m) (c .before .pre .0)
 
@@ -76,7 +76,7 @@ sub-t9 c = rw (difference (c .before .before)) (difference-fits (c .before .befo
 returns : tie.Need-returns
 returns c =
     let at-power = c .before .before .before in (
-      c .before .before .message-of .ensures,
+      c .before .before .message-of .ensures .0 (at-power .before .pre .0),
       ap (λ (z : ℤ). toZ w32 (ofZ w32 z)) (difference at-power) ∙ toZ-ofZ w32 _ (difference-fits at-power),
       refl,
     )

@@ -50,7 +50,7 @@ sub-t6 c = rw (most-turns (c .before .before)) (c .before .before .before .pre .
 returns : tie.Need-returns
 returns c =
     let at-power = c .before .before .before in (
-      c .before .before .message-of .ensures,
+      c .before .before .message-of .ensures .0 (at-power .before .pre .0),
       ap (λ (n : ℕ). n - at-power .before .args .led .best) (most-turns at-power),
       refl,
     )

@@ -35,7 +35,7 @@ power-requires c κs = search needs
 power-requires-2 : tie.Need-power-requires-2 Inv-loop μ-loop
 power-requires-2 c κs = search needs
 
--- n is N, and q is 2^h, at most 8
+-- n is N, and q is 2^h, at most the most phases
 places : (c : tie.After-power2 Inv-loop μ-loop) → c .before .power .result ≡ carriers (start c .args .m)
 places c =
     let args = start c .args in

@@ -8,8 +8,8 @@ use borrow.Author.Needs.{needs}
 use Rattle.rules.specs.Shape.{greatestH, phases, halfTurn, pathsInUse}
 use Rattle.rules.proofs.Range.{InRange, inShape-range, phases-by-two, phases-least, phases-most, carriers-most}
 use Rattle.shape.proofs.Powers.{power-phases}
-use Rattle.paths.specs.Steps.{pathRow}
-use Rattle.paths.proofs.PathTable.{stepsOf-used}
+use Rattle.steps.specs.Steps.{pathRow}
+use Rattle.steps.proofs.PathTable.{stepsOf-used}
 use Rattle.words.proofs.Labels.{labelPath-lt}
 use Rattle.encoder.proofs.Formula.{Held, held-cells, held-small, held-walk, held-symbols}
 use Rattle.encoder.proofs.fill.Statement.{statement}

@@ -7,7 +7,7 @@ use denote.Ref.{now}
 use borrow.Author.Needs.{needs}
 use Rattle.range.specs.Below.{listBelow}
 use Rattle.rules.specs.Shape.{carriers, halfTurn}
-use Rattle.rules.specs.Label.{labels}
+use Rattle.rules.specs.Label.{labels, labelOf}
 use Rattle.rules.specs.Outcome.{allowed}
 use Rattle.rules.specs.Refusal.{sendRefusal}
 use Rattle.rules.proofs.Messages.{labelOf-lt}
@@ -35,12 +35,16 @@ taken : (c : tie.After-enum-told) → let args = start c .args in
     SendTaken (args .h) (args .m) (length (now (args .out))) (args .message .0)
 taken c = send-taken _ _ _ _ (free c)
 
--- so the label is one of the shape
+-- so the label is the message's, and one of the shape
+label-is : (c : tie.After-label-of) → let args = start (c .before) .args in
+    c .label-of .result ≡ labelOf (args .h) (args .m) (args .message .0)
+label-is c = c .label-of .ensures .0 (taken (c .before) .shape)
+
 label-lt : (c : tie.After-label-of) → let args = start (c .before) .args in
     c .label-of .result < labels (args .h) (args .m)
 label-lt c =
     let args = start (c .before) .args in
-    subst (λ (l : ℕ). l < labels (args .h) (args .m)) (sym (c .label-of .ensures))
+    subst (λ (l : ℕ). l < labels (args .h) (args .m)) (sym (label-is c))
     (labelOf-lt (args .h) (args .m) (args .message .0) (taken (c .before) .message))
 
 fill-requires : tie.Need-fill-requires
@@ -56,7 +60,7 @@ returns-2 c =
     sent-done (args .h) (args .m) (args .message .0) _ _ _ (free (at-label .before))
     (at-fill .fill .ensures
     ∙ ap (λ (l : ℕ). listBelow (carriers (args .m)) (liftedAt (args .h) (args .m) l (args .lift * halfTurn (args .h))))
-    (at-label .label-of .ensures))
+    (label-is at-label))
 
 pub send-spec : {M : Type 1} → statement M
 send-spec =

@@ -1,12 +1,12 @@
 -- `encoder::split` meets its contract: each turn takes the lowest coefficient that is left and divides it away.
 -- Invariant: the coefficients above r are taken, and rest is what stands above them. Measure: r.  Assumes nothing.
-use Prim.Native.Nat.{ℕ, _%_, _≤_, _<_}
+use Prim.Native.Nat.{ℕ, suc, _%_, _≤_, _<_}
 use native.Mathlib.Nat.{mod-lt}
 use native.Mathlib.Omega.{arith}
 use mathlib.Core.Path.{_≡_, refl, _∙_}
 use lib.ListN.{replicate}
 use borrow.Author.Needs.{needs}
-use Rattle.rules.specs.Shape.{phases}
+use Rattle.rules.specs.Shape.{greatestH, greatestM, phases}
 use Rattle.rules.specs.Label.{labelPath}
 use Rattle.rules.proofs.Range.{InRange, inShape-range, phases-least, phases-most, pathsInUse-most}
 use Rattle.shape.proofs.Powers.{power-phases}
@@ -27,18 +27,18 @@ power-requires c κs = search needs
 ranged : (c : tie.After-power Inv-loop μ-loop) → InRange (c .before .args .h) (c .before .args .m)
 ranged c = inShape-range _ _ (c .before .pre .0)
 
--- q is 2^h, from 2 to 8
+-- q is 2^h, from 2 to the most phases
 base : (c : tie.After-power Inv-loop μ-loop) → c .power .result ≡ phases (c .before .args .h)
 base c = c .power .ensures ∙ power-phases (c .before .args .h) (c .before .args .m) (c .before .pre .0)
 
 base-least : (c : tie.After-power Inv-loop μ-loop) → 2 ≤ c .power .result
 base-least c = omega (arith, base c, phases-least _ _ (ranged c))
 
-base-most : (c : tie.After-power Inv-loop μ-loop) → c .power .result ≤ 8
+base-most : (c : tie.After-power Inv-loop μ-loop) → c .power .result ≤ phases greatestH
 base-most c = omega (arith, base c, phases-most _ _ (ranged c))
 
 -- what a division by q leaves is small
-left-lt : (c : tie.After-power Inv-loop μ-loop) (x : ℕ) → x % c .power .result < 8
+left-lt : (c : tie.After-power Inv-loop μ-loop) (x : ℕ) → x % c .power .result < phases greatestH
 left-lt c x = omega (arith, mod-lt x {m = c .power .result} (omega (arith, base-least c)), base-most c)
 
 rem-c : tie.Need-rem-c Inv-loop μ-loop
@@ -56,7 +56,7 @@ div-rest c = omega (arith, base-least c)
 loop-holds : tie.Need-loop-holds Inv-loop μ-loop
 loop-holds c =
     let args = c .before .args in
-    taken-first (args .h) (args .m) (args .label) (c .power .result) (replicate 6 0) (base c) refl
+    taken-first (args .h) (args .m) (args .label) (c .power .result) (replicate (suc greatestM) 0) (base c) refl
 
 rem-c-2 : tie.Need-rem-c-2 Inv-loop μ-loop
 rem-c-2 c = omega (arith, base-least (c .before .before))

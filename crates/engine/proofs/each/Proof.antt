@@ -1,18 +1,19 @@
 -- `engine::each` meets its contract: the labels of one path after the other are all labels.
 -- Invariant: the labels before first, those of n paths, are gone through. Measure: the paths left.
 -- Assumes nothing.
-use Prim.Native.Nat.{ℕ, _+_, _-_, _*_, _^_, _≤_}
+use Prim.Native.Nat.{ℕ, _+_, _-_, _*_, _≤_}
 use native.Mathlib.Nat.{zero-add}
 use native.Mathlib.Omega.{arith}
 use mathlib.Core.Path.{_≡_, refl, sym, _∙_, ap}
 use lib.ListN.{length}
 use denote.Ref.{now}
 use Rattle.range.proofs.Products.{times-within}
-use Rattle.rules.proofs.Range.{inShape-range}
+use Rattle.rules.proofs.Range.{inShape-range, messages-most}
 use Rattle.totals.specs.Totals.{totalOf}
 use Rattle.standing.specs.Lead.{nobody, leadFrom, lead}
 use Rattle.standing.proofs.Lead.{leadFrom-none, leadFrom-end, leadFrom-stretch}
-use Rattle.engine.proofs.AllPaths.{labels-le, all-labels, paths-path}
+use Rattle.engine.specs.Search.{mostLabels}
+use Rattle.engine.proofs.AllPaths.{all-labels, paths-path}
 use Rattle.engine.proofs.each.Statement.{statement}
 use Rattle.engine.proofs.each.Tie as tie
 
@@ -46,7 +47,7 @@ turn c = passed c .before .before .before .before
 
 -- the labels of a path can be counted
 counted : (c : tie.In-loop Inv-loop μ-loop) → let s = start c in
-    c .before .loop .first + s .args .size ≤ 2 ^ 32
+    c .before .loop .first + s .args .size ≤ mostLabels
 counted c =
     let at = c .before .loop in
     let s = start c in
@@ -55,7 +56,7 @@ counted c =
       at .inv .1,
       times-within (at .n) (s .args .uses) (s .args .size) (c .loop-test .taken),
       all-labels (s .pre),
-      labels-le (s .args .h) (s .args .m) (inShape-range (s .args .h) (s .args .m) (s .pre .shape)),
+      messages-most (s .args .h) (s .args .m) (inShape-range (s .args .h) (s .args .m) (s .pre .shape)),
     )
 
 path-requires : tie.Need-path-requires Inv-loop μ-loop

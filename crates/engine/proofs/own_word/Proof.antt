@@ -19,7 +19,7 @@ returns : tie.Need-returns
 returns c =
     let s = c .before .before .before .before .before .before in
     sent-own (s .args .h) (s .args .m) (s .args .label) _ (now (s .args .word)) _ _ (s .pre .0) (s .pre .1) (s .pre .2)
-    (c .before .before .before .before .message-of .ensures) (c .before .before .encode .ensures)
+    (c .before .before .before .before .message-of .ensures .0 (s .pre .0)) (c .before .before .encode .ensures)
 
 pub own-word-spec : {M : Type 1} → statement M
 own-word-spec = tie.close (tie.spec message-of-requires encode-requires same-length returns)

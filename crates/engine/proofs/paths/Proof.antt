@@ -7,8 +7,7 @@ use denote.Ref.{now}
 use borrow.Author.Needs.{needs}
 use Rattle.rules.specs.Shape.{phases, pathsInUse}
 use Rattle.rules.proofs.Range.{InRange, inShape-range, coefficientBits-le}
-use Rattle.shape.proofs.Powers.{power-is}
-use Rattle.words.proofs.Powers.{power-labels, power-uses}
+use Rattle.shape.proofs.Powers.{power-is, power-labels, power-uses}
 use Rattle.engine.proofs.Accepting.{Accepted, accepts-given, accepted-small}
 use Rattle.engine.proofs.paths.Statement.{statement}
 use Rattle.engine.proofs.paths.Tie as tie

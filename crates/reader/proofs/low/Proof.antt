@@ -8,7 +8,7 @@ use lib.ListN.{length}
 use lib.Pow.{pow-pos}
 use denote.Ref.{now}
 use borrow.Author.Needs.{needs}
-use Rattle.rules.specs.Shape.{phases}
+use Rattle.rules.specs.Shape.{greatestH, phases, mostCoefficientBits}
 use Rattle.rules.specs.Word.{symbolAt}
 use Rattle.rules.specs.Pair.{minus}
 use Rattle.rules.proofs.Range.{InRange, inShape-range, phases-most}
@@ -35,24 +35,25 @@ at-loop c = c .before .before
 power-requires : tie.Need-power-requires Inv-loop μ-loop
 power-requires c κs = search needs
 
--- q is 2^h, at most 8
+-- q is 2^h, at most the most phases
 ranged : (c : tie.After-power Inv-loop μ-loop) → InRange (start c .args .h) (start c .args .m)
 ranged c = inShape-range _ _ (start c .pre .shape)
 
 base : (c : tie.After-power Inv-loop μ-loop) → c .power .result ≡ phases (start c .args .h)
 base c = c .power .ensures ∙ power-phases (start c .args .h) (start c .args .m) (start c .pre .shape)
 
-base-most : (c : tie.After-power Inv-loop μ-loop) → c .power .result ≤ 8
+base-most : (c : tie.After-power Inv-loop μ-loop) → c .power .result ≤ phases greatestH
 base-most c = omega (arith, base c, phases-most _ _ (ranged c))
 
 -- what is read so far, one base up, fits easily
-small : (c : tie.At-loop Inv-loop μ-loop) → c .loop .number * c .before .power .result ≤ 2097152
+small : (c : tie.At-loop Inv-loop μ-loop) →
+    c .loop .number * c .before .power .result ≤ 2 ^ mostCoefficientBits * phases greatestH
 small c =
     let args = start (c .before) .args in
     let range = ranged (c .before) in
     let bound = shownUpTo-small (args .h) (args .m) (now (args .word)) (c .loop .k) range (c .loop .inv .0) in
-    mul-le-mul {n₁ = c .loop .number} {m₁ = c .before .power .result} {n₂ = 262144} {m₂ = 8}
-    (omega (arith, c .loop .inv .1, bound)) (base-most (c .before))
+    mul-le-mul {n₁ = c .loop .number} {m₁ = c .before .power .result} {n₂ = 2 ^ mostCoefficientBits}
+    {m₂ = phases greatestH} (omega (arith, c .loop .inv .1, bound)) (base-most (c .before))
 
 -- the place of c_k, inside the word
 place : (c : tie.After-power2 Inv-loop μ-loop) →

@@ -11,16 +11,14 @@ use lib.Pow.{pow-mono}
 use denote.Ref.{now}
 use borrow.Author.Count.{below-none, below-more}
 use borrow.Author.Needs.{needs}
-use Rattle.rules.specs.Shape.{phases, pathsInUse, messages}
+use Rattle.rules.specs.Shape.{phases, pathsInUse, messages, mostCoefficientBits}
 use Rattle.rules.specs.Label.{labels, messageOf}
 use Rattle.rules.specs.Word.{wordOf}
 use Rattle.rules.specs.Table.{messageWith}
 use Rattle.rules.specs.Refusal.{orNoWord}
-use Rattle.rules.proofs.Range.{InRange, inShape-range, coefficientBits-le, messageBits-le}
-use Rattle.rules.proofs.Range.{mostCoefficientBits, mostBits}
-use Rattle.words.proofs.Labels.{phases-pow}
+use Rattle.rules.proofs.Range.{InRange, inShape-range, coefficientBits-le, messages-most, phases-pow}
 use Rattle.rules.proofs.Messages.{messageOf-lt}
-use Rattle.words.proofs.Powers.{power-labels, power-uses}
+use Rattle.shape.proofs.Powers.{power-labels, power-uses}
 use Rattle.reader.specs.Shown.{labelWith}
 use Rattle.reader.proofs.ShownLaws.{labelWith-zero, labelWith-next, labelWith-lt, messageWith-some}
 use Rattle.reader.proofs.ShownLaws.{messageWith-none}
@@ -99,7 +97,9 @@ label-lt c =
 -- and the message is that of the shown label
 message-is : (c : tie.After-message-of Inv-loop μ-loop) → let args = start (c .before .before) .args in
     c .message-of .result .0 ≡ messageOf (args .h) (args .m) (labelAt (c .before .before))
-message-is c = c .message-of .ensures ∙ ap (messageOf _ _) (c .before .before .loop .inv .1)
+message-is c =
+    let head = c .before .before in
+    c .message-of .ensures .0 (start head .pre .shape) ∙ ap (messageOf _ _) (head .loop .inv .1)
 
 message-lt : (c : tie.After-message-of Inv-loop μ-loop) → let args = start (c .before .before) .args in
     c .message-of .result .0 < messages (args .h) (args .m)
@@ -141,8 +141,7 @@ add-label c =
     let turn = at-message (c .before) .before in
     let step = at-step (turn .before) in
     let args = step .before .before .args in
-    let bits : labels (args .h) (args .m) ≤ 2 ^ mostBits
-    = pow-mono (messageBits-le (args .h) (args .m) (ranged (step .before))) in
+    let bits = messages-most (args .h) (args .m) (ranged (step .before)) in
     omega (arith, turn .before .loop .inv .1, label-lt turn, bits, step-le step)
 
 add-n : tie.Need-add-n Inv-loop μ-loop

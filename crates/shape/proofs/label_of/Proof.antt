@@ -7,7 +7,7 @@ use Rattle.shape.proofs.label_of.Tie as tie
 
 returns : tie.Need-returns
 unfolding labelOf
-returns c = refl
+returns c = (λ _. refl, λ _. refl)
 
 pub label-of-spec : {M : Type 1} → statement M
 label-of-spec = tie.close (tie.spec returns)

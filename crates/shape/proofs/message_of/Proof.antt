@@ -7,7 +7,7 @@ use Rattle.shape.proofs.message_of.Tie as tie
 
 returns : tie.Need-returns
 unfolding messageOf
-returns c = refl
+returns c = (λ _. refl, λ _. refl)
 
 pub message-of-spec : {M : Type 1} → statement M
 message-of-spec = tie.close (tie.spec returns)

@@ -1,0 +1,2 @@
+-- Laws of the table of the paths in use.
+pub mod PathTable
