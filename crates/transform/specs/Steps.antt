@@ -1,8 +1,9 @@
 -- The steps of the transform as code takes them.
--- Defines:  butterfly s y i      what a stage writes at place i, from y, where the two places of a pair lie s apart
+-- Defines:  addable              two numbers below it in size can be added in 32 bits, and one taken from the other
+--           butterfly s y i      what a stage writes at place i, from y, where the two places of a pair lie s apart
 --           Start s i            i is where a block of 2 s entries begins: it is a multiple of 2 s
---           Readable s n a       a stage may read the first n entries of a: blocks of 2 s fill them, and no sum or
---                                difference of two leaves 32 bits
+--           Readable s n a       a stage may read the first n entries of a: blocks of 2 s fill them, and any two of
+--                                them can be added
 --           Block s p a d        the block that begins at p may be read of a and written to d
 --           Taken m a b          nothing is refused: m is in range, each area has N entries, and the first N of a are
 --                                accepted
@@ -22,6 +23,9 @@ use Rattle.range.specs.Signed.{entry}
 use Rattle.rules.specs.Shape.{inM, carriers}
 use Rattle.rules.specs.Spectrum.{accepted, stages}
 
+abbrev pub addable : ℕ
+addable = 2 ^ 30
+
 unfoldable pub butterfly : ℕ → (ℕ → ℤ) → ℕ → ℤ
 butterfly s y i = cond (eqb (i / s % 2) 0) (y i +ℤ y (i + s)) (y (i - s) -ℤ y i)
 
@@ -33,13 +37,13 @@ pub record Readable (s n : ℕ) (a : List ℤ) : Type 0 where
   pub stride : 0 < s
   pub blocks : Start s n
   pub long : n ≤ length a
-  pub small : (i : ℕ) → i < n → mag (entry a i) < 2 ^ 30
+  pub small : (i : ℕ) → i < n → mag (entry a i) < addable
 
 pub record Block (s p : ℕ) (a d : List ℤ) : Type 0 where
   pub begins : Start s p
   pub inside : p + s + s ≤ length a
   pub fits : p + s + s ≤ length d
-  pub small : (i : ℕ) → i < p + s + s → mag (entry a i) < 2 ^ 30
+  pub small : (i : ℕ) → i < p + s + s → mag (entry a i) < addable
 
 pub record Taken (m : ℕ) (a b : List ℤ) : Type 0 where
   pub range : inM m ≡ true

@@ -100,13 +100,7 @@ fn first_outside(n: usize, area: &[i32]) -> Search
 fn takes(v: i32) -> bool
     ensures { λ r. ⌜ r ≡ accepted v ⌝ }
 {
-    if v < LEAST {
-        return false;
-    }
-    if GREATEST < v {
-        return false;
-    }
-    true
+    LEAST <= v && v <= GREATEST
 }
 
 // Entry i of an area.

@@ -1,28 +1,16 @@
--- `transform::takes` meets its contract: an input below the range, above it, or inside.
+-- `transform::takes` meets its contract: where the first test holds the second decides.
 -- Assumes nothing.
-use mathlib.Core.Path.{sym}
 use mir.Syntax.{w32}
 use mir.ValLaws.{toZ-ofZ}
-use Rattle.spectrum.proofs.Inputs.{accepted-below, accepted-above, accepted-inside}
+use Rattle.range.proofs.Tests.{and-of-true, and-of-false}
 use Rattle.transform.proofs.takes.Statement.{statement}
 use Rattle.transform.proofs.takes.Tie as tie
 
 returns : tie.Need-returns
-returns c =
-    let start = c .before in
-    sym (accepted-below (start .args .v) (rw (toZ-ofZ w32 (start .args .v) (start .fits .v)) at (c .if1 .taken)))
+returns c = let e = toZ-ofZ w32 (c .before .args .v) (c .before .fits .v) in rw e (and-of-true _ _ (rw e at (c .if1 .taken)))
 
 returns-2 : tie.Need-returns-2
-returns-2 c =
-    let start = c .before .before in
-    sym (accepted-above (start .args .v) (rw (toZ-ofZ w32 (start .args .v) (start .fits .v)) at (c .if2 .taken)))
-
-returns-3 : tie.Need-returns-3
-returns-3 c =
-    let start = c .before .before in
-    sym
-    (accepted-inside (start .args .v) (rw (toZ-ofZ w32 (start .args .v) (start .fits .v)) at (c .before .if1 .left))
-    (rw (toZ-ofZ w32 (start .args .v) (start .fits .v)) at (c .if2 .left)))
+returns-2 c = let e = toZ-ofZ w32 (c .before .args .v) (c .before .fits .v) in rw e (and-of-false _ _ (rw e at (c .if1 .left)))
 
 pub takes-spec : {M : Type 1} → statement M
-takes-spec = tie.close (tie.spec returns returns-2 returns-3)
+takes-spec = tie.close (tie.spec returns returns-2)
