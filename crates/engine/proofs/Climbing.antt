@@ -16,7 +16,7 @@ use Rattle.totals.specs.Climb.{pairAt, climbedAt, climbed, climbs, byLabel}
 use Rattle.totals.proofs.Runs.{length-climbed}
 use Rattle.standing.specs.declared.Standing.{Standing}
 use Rattle.standing.specs.Lead.{leadFrom}
-use Rattle.engine.specs.Tables.{mostTotal, Runs, tableIn, Climbing}
+use Rattle.engine.specs.Tables.{mostTotal, mostLabels, Runs, tableIn, Climbing}
 
 pow-one : (q : ℕ) → q ^ 1 ≡ q
 pow-one q = pow-succ' q 0 ∙ rw (pow-zero q) (mul-one q)
@@ -70,7 +70,7 @@ module _ (q half w l : ℕ) (xs ys : List ℕ) (p : Climbing 0 q half w l xs ys)
   climbing-half : half ≡ 1
   climbing-half = p .halved ∙ pow-zero 2
 
-  pub climbing-last : Runs q 1 w (tableIn q 1 w xs) × (l + q * (w * q) ≤ 2 ^ 32)
+  pub climbing-last : Runs q 1 w (tableIn q 1 w xs) × (l + q * (w * q) ≤ mostLabels)
   climbing-last = (
     subst (λ (k : ℕ). Runs q k w (tableIn q k w xs)) climbing-half (p .runs),
     omega (arith, p .counted, ap (λ (k : ℕ). w * k * q) (pow-one q)),

@@ -12,12 +12,12 @@ ghost use mathlib.Core.Bool.{false};
 ghost use lib.ListN.{length, getD};
 ghost use Rattle.totals.specs.Climb.{pairAt, climbed, byLabel};
 ghost use Rattle.standing.specs.Lead.{leadFrom};
-ghost use Rattle.engine.specs.Tables.{Runs, mostTotal};
+ghost use Rattle.engine.specs.Tables.{Runs, mostTotal, mostLabels};
 
 // The standing after all labels of the table, counted from first on.
 pub(super) fn last(q: usize, w: usize, first: u64, table: &[u32], before: Standing) -> Standing
     requires { ⌜ Runs q 1 w (now table) ⌝ }
-    requires { ⌜ first + q * (w * q) ≤ 2 ^ 32 ⌝ }
+    requires { ⌜ first + q * (w * q) ≤ mostLabels ⌝ }
     ensures { λ r. ⌜ r ≡ leadFrom first (byLabel q (w * q) (climbed q 1 w (now (table .entry))))
         (q * (w * q)) before ⌝ }
 {
@@ -37,7 +37,7 @@ pub(super) fn last(q: usize, w: usize, first: u64, table: &[u32], before: Standi
 // change it.
 fn block(q: usize, w: usize, c: usize, first: u64, table: &[u32], before: Standing) -> Standing
     requires { ⌜ Runs q 1 w (now table) ⌝ }
-    requires { ⌜ (c < q) × (first + w * q ≤ 2 ^ 32) ⌝ }
+    requires { ⌜ (c < q) × (first + w * q ≤ mostLabels) ⌝ }
     ensures { λ r. ⌜ r ≡ leadFrom first (λ j. pairAt q 1 w (now (table .entry)) (j % q) c (j / q)) (w * q) before ⌝ }
 {
     if !passes(q, w, c, before.second, table) {
@@ -90,7 +90,7 @@ fn or_above(found: bool, value: u32, second: u32) -> bool
 // The same, label after label.
 fn scan(q: usize, w: usize, c: usize, first: u64, table: &[u32], before: Standing) -> Standing
     requires { ⌜ Runs q 1 w (now table) ⌝ }
-    requires { ⌜ (c < q) × (first + w * q ≤ 2 ^ 32) ⌝ }
+    requires { ⌜ (c < q) × (first + w * q ≤ mostLabels) ⌝ }
     ensures { λ r. ⌜ r ≡ leadFrom first (λ j. pairAt q 1 w (now (table .entry)) (j % q) c (j / q)) (w * q) before ⌝ }
 {
     let mut st = before;
@@ -115,7 +115,7 @@ fn row(
     before: Standing,
 ) -> Standing
     requires { ⌜ Runs q 1 w (now table) ⌝ }
-    requires { ⌜ (c < q) × (i < w) × (first + q ≤ 2 ^ 32) ⌝ }
+    requires { ⌜ (c < q) × (i < w) × (first + q ≤ mostLabels) ⌝ }
     ensures { λ r. ⌜ r ≡ leadFrom first (λ s. pairAt q 1 w (now (table .entry)) s c i) q before ⌝ }
 {
     let mut st = before;

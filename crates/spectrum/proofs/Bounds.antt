@@ -1,6 +1,6 @@
 -- How great the values after a stage are: rules' Spectrum. `mag z < w` says -w ≤ z < w, so that -32,768 has 32,767.
--- In order: what is accepted is small; one stage doubles a bound; k stages multiply it by 2^k; a bound for every stage of
--- every m in range, which follows from the range of the inputs.
+-- In order: what is accepted is small; one stage doubles a bound; k stages multiply it by 2^k; a bound for every stage
+-- of every m in range, which follows from the range of the inputs.
 -- Not here: what the values are (Entries).  Assumes nothing.
 use Prim.Native.Nat.{ℕ, zero, suc, _+_, _-_, _*_, _^_, _≤_, _<_}
 use native.Mathlib.Nat.{pow-succ', mul-assoc, mul-le-mul-right, lt-of-lt-of-le}

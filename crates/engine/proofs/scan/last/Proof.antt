@@ -1,7 +1,7 @@
 -- `engine::scan::last` meets its contract: the labels of one coefficient after the other.
 -- Invariant: the standing is that after the labels of the coefficients before c. Measure: the coefficients left.
 -- Assumes nothing.
-use Prim.Native.Nat.{ℕ, _+_, _-_, _*_, _^_, _≤_}
+use Prim.Native.Nat.{ℕ, _+_, _-_, _*_, _≤_}
 use native.Mathlib.Omega.{arith}
 use mathlib.Core.Path.{_≡_, ap}
 use denote.Ref.{now}
@@ -9,6 +9,7 @@ use Rattle.range.proofs.Products.{times-within, times-least}
 use Rattle.totals.specs.Climb.{climbed, byLabel}
 use Rattle.standing.specs.Lead.{leadFrom}
 use Rattle.standing.proofs.Lead.{leadFrom-none, leadFrom-end}
+use Rattle.engine.specs.Tables.{mostLabels}
 use Rattle.engine.proofs.Counting.{blocks-next}
 use Rattle.engine.proofs.scan.last.Statement.{statement}
 use Rattle.engine.proofs.scan.last.Tie as tie
@@ -32,7 +33,7 @@ loop-holds c = (omega arith, omega arith, leadFrom-none _ _ _ _ (omega arith))
 
 -- the labels of a coefficient can be counted
 counted : (c : tie.In-loop Inv-loop μ-loop) → let args = c .before .before .before .args in
-    c .before .loop .label + args .w * args .q ≤ 2 ^ 32
+    c .before .loop .label + args .w * args .q ≤ mostLabels
 counted c =
     let at = c .before .loop in
     let args = c .before .before .before .args in

@@ -1,7 +1,7 @@
 -- `engine::scan::scan` meets its contract: row after row.
 -- Invariant: the standing is that after the first i rows. Measure: the rows left.
 -- Assumes nothing.
-use Prim.Native.Nat.{ℕ, _+_, _-_, _*_, _/_, _%_, _^_, _≤_}
+use Prim.Native.Nat.{ℕ, _+_, _-_, _*_, _/_, _%_, _≤_}
 use native.Mathlib.Omega.{arith}
 use mathlib.Core.Path.{_≡_, ap}
 use denote.Ref.{now}
@@ -9,6 +9,7 @@ use Rattle.range.proofs.Products.{times-within}
 use Rattle.totals.specs.Climb.{pairAt}
 use Rattle.standing.specs.Lead.{leadFrom}
 use Rattle.standing.proofs.Lead.{leadFrom-none, leadFrom-end}
+use Rattle.engine.specs.Tables.{mostLabels}
 use Rattle.engine.proofs.Counting.{rows-next}
 use Rattle.engine.proofs.scan.scan.Statement.{statement}
 use Rattle.engine.proofs.scan.scan.Tie as tie
@@ -27,7 +28,7 @@ loop-holds c = (omega arith, omega arith, leadFrom-none _ _ _ _ (omega arith))
 
 -- the labels of a row can be counted
 counted : (c : tie.In-loop Inv-loop μ-loop) → let args = c .before .before .before .args in
-    c .before .loop .label + args .q ≤ 2 ^ 32
+    c .before .loop .label + args .q ≤ mostLabels
 counted c =
     let at = c .before .loop in
     let s = c .before .before .before in
