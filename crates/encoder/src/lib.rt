@@ -127,7 +127,7 @@ fn symbol(
 {
     let a = links(g, p, m, i);
     let b = linear(g, c, m, i);
-    let first = at(g, index(p[0]), i);
+    let first = at(g, shape::index(p[0]), i);
     ((q / 2 * a + b + s * first) % q) as u8
 }
 
@@ -159,7 +159,7 @@ fn links(g: [[u8; PLACES]; ROWS], p: [u8; STEPS], m: u32, i: usize) -> u32
     let mut sum = 0;
     let mut k = 0;
     while k < n {
-        sum += at(g, index(p[k]), i) * at(g, index(p[k + 1]), i);
+        sum += at(g, shape::index(p[k]), i) * at(g, shape::index(p[k + 1]), i);
         k += 1;
     }
     sum
@@ -177,12 +177,6 @@ fn wide(x: u8) -> u32
     ensures { λ y. ⌜ y ≡ x ⌝ }
 {
     x as u32
-}
-
-fn index(x: u8) -> usize
-    ensures { λ y. ⌜ y ≡ x ⌝ }
-{
-    x as usize
 }
 
 // a less b, and 0 where b is greater.

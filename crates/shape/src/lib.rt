@@ -111,10 +111,17 @@ fn lesser(x: u64, y: u64) -> u64
     if x < y { x } else { y }
 }
 
-fn wide(x: u8) -> u64
-    ensures { λ y. ⌜ y ≡ x ⌝ }
+// A symbol or a step as a number to count with, and as one to index with. Who calls them need not show that it fits.
+pub fn wide(x: u8) -> u64
+    ensures { λ r. ⌜ r ≡ x ⌝ }
 {
     x as u64
+}
+
+pub fn index(x: u8) -> usize
+    ensures { λ r. ⌜ r ≡ x ⌝ }
+{
+    x as usize
 }
 
 // The first symbol of a word that is q or more.
