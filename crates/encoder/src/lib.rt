@@ -12,12 +12,12 @@ ghost use mathlib.Core.Path.{_≡_};
 ghost use mathlib.Core.Bool.{true};
 ghost use lib.ListN.{length};
 ghost use Rattle.range.specs.Below.{listBelow};
-ghost use Rattle.rules.specs.Shape.{carriers, inShape, phases, halfTurn, greatestH, greatestM};
+ghost use Rattle.rules.specs.Shape.{carriers, inShape, halfTurn, greatestM};
 ghost use Rattle.rules.specs.Place.{digit};
 ghost use Rattle.rules.specs.Label.{labels, labelOf};
 ghost use Rattle.rules.specs.Word.{wordOf, partnerOf};
 ghost use Rattle.encoder.specs.Steps.{generatorRows, cell, linearOf, linksOf, symbolOf, liftedAt, Split, Cells};
-ghost use Rattle.encoder.specs.Steps.{Small, Walk};
+ghost use Rattle.encoder.specs.Steps.{Small, Walk, Bounded};
 ghost use Rattle.encoder.specs.Sent.{Sent};
 
 // The answer of encode and partner.
@@ -95,11 +95,8 @@ fn combine(
     s: u32,
     out: &mut [u8],
 )
-    requires { ⌜ Cells m g ⌝ }
-    requires { ⌜ Small m c ⌝ }
-    requires { ⌜ Walk m p ⌝ }
-    requires { ⌜ (2 ≤ q) × (q ≤ phases greatestH) × (s ≤ halfTurn greatestH)
-        × (length (now out) ≤ carriers greatestM) ⌝ }
+    requires { ⌜ Bounded m q s g p c ⌝ }
+    requires { ⌜ length (now out) ≤ carriers greatestM ⌝ }
     ensures { λ _. ⌜ now (out .exit) ≡ listBelow (length (now (out .entry))) (symbolOf g p c m q s) ⌝ }
 {
     let mut i = 0;
@@ -119,10 +116,8 @@ fn symbol(
     s: u32,
     i: usize,
 ) -> u8
-    requires { ⌜ Cells m g ⌝ }
-    requires { ⌜ Small m c ⌝ }
-    requires { ⌜ Walk m p ⌝ }
-    requires { ⌜ (2 ≤ q) × (q ≤ phases greatestH) × (s ≤ halfTurn greatestH) × (i < carriers greatestM) ⌝ }
+    requires { ⌜ Bounded m q s g p c ⌝ }
+    requires { ⌜ i < carriers greatestM ⌝ }
     ensures { λ r. ⌜ r ≡ symbolOf g p c m q s i ⌝ }
 {
     let a = links(g, p, m, i);
