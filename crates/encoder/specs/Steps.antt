@@ -8,13 +8,14 @@
 --           liftedAt h m l s i   the formula plus s x_p(1), modulo 2^h: the word for s = 0, the partner for s = 2^(h-1)
 --           Split h m l t        the parts t of label l
 --           Cells m g, Small m c, Walk m p    bounds on the arrays, so that no sum wraps and no index lies outside
+--           Bounded m q s g p c  all three, and bounds on q and s
 -- Assumes nothing: these are definitions.
 use Prim.Native.Nat.{ℕ, suc, _+_, _-_, _*_, _/_, _%_, _≤_, _<_}
 use mathlib.Core.Path.{_≡_}
 use mathlib.Core.List.{List, []}
 use lib.ListN.{getD}
 use Rattle.range.specs.Below.{sumBelow, listBelow}
-use Rattle.rules.specs.Shape.{greatestH, greatestM, carriers, phases}
+use Rattle.rules.specs.Shape.{greatestH, greatestM, carriers, phases, halfTurn}
 use Rattle.rules.specs.Place.{digit, generatorAt}
 use Rattle.rules.specs.Path.{headOf, pathAt}
 use Rattle.rules.specs.Label.{labelPath, rowCoefficient}
@@ -56,3 +57,11 @@ pub record Small (m : ℕ) (c : List ℕ) : Type 0 where
 pub record Walk (m : ℕ) (p : List ℕ) : Type 0 where
   pub least : 2 ≤ m
   pub steps : (k : ℕ) → k < m → getD p k 0 ≤ m
+
+pub record Bounded (m q s : ℕ) (g : List (List ℕ)) (p c : List ℕ) : Type 0 where
+  pub cells : Cells m g
+  pub small : Small m c
+  pub walk : Walk m p
+  pub least : 2 ≤ q
+  pub most : q ≤ phases greatestH
+  pub lift : s ≤ halfTurn greatestH

@@ -13,12 +13,12 @@ ghost use mathlib.Core.Path.{_≡_};
 ghost use mathlib.Core.Bool.{true};
 ghost use lib.ListN.{length};
 ghost use Rattle.range.specs.Below.{listBelow};
-ghost use Rattle.rules.specs.Shape.{carriers, inShape, phases, halfTurn, greatestH, greatestM};
+ghost use Rattle.rules.specs.Shape.{carriers, inShape, halfTurn, greatestM};
 ghost use Rattle.rules.specs.Place.{digit};
 ghost use Rattle.rules.specs.Label.{labels, labelOf};
 ghost use Rattle.rules.specs.Word.{wordOf, partnerOf};
 ghost use Rattle.encoder.specs.Steps.{generatorRows, cell, linearOf, linksOf, symbolOf, liftedAt, Split, Cells};
-ghost use Rattle.encoder.specs.Steps.{Small, Walk};
+ghost use Rattle.encoder.specs.Steps.{Small, Walk, Bounded};
 ghost use Rattle.encoder.specs.Sent.{Sent};
 
 // The answer of encode and partner.
@@ -90,11 +90,8 @@ fn combine(
     s: u32,
     out: &mut [u8],
 )
-    requires { ⌜ Cells m g ⌝ }
-    requires { ⌜ Small m c ⌝ }
-    requires { ⌜ Walk m p ⌝ }
-    requires { ⌜ (2 ≤ q) × (q ≤ phases greatestH) × (s ≤ halfTurn greatestH)
-        × (length (now out) ≤ carriers greatestM) ⌝ }
+    requires { ⌜ Bounded m q s g p c ⌝ }
+    requires { ⌜ length (now out) ≤ carriers greatestM ⌝ }
     ensures { λ _. ⌜ now (out .exit) ≡ listBelow (length (now (out .entry))) (symbolOf g p c m q s) ⌝ }
 {
     let mut i = 0;
@@ -114,15 +111,13 @@ fn symbol(
     s: u32,
     i: usize,
 ) -> u8
-    requires { ⌜ Cells m g ⌝ }
-    requires { ⌜ Small m c ⌝ }
-    requires { ⌜ Walk m p ⌝ }
-    requires { ⌜ (2 ≤ q) × (q ≤ phases greatestH) × (s ≤ halfTurn greatestH) × (i < carriers greatestM) ⌝ }
+    requires { ⌜ Bounded m q s g p c ⌝ }
+    requires { ⌜ i < carriers greatestM ⌝ }
     ensures { λ r. ⌜ r ≡ symbolOf g p c m q s i ⌝ }
 {
     let a = links(g, p, m, i);
     let b = linear(g, c, m, i);
-    let first = at(g, index(p[0]), i);
+    let first = at(g, shape::index(p[0]), i);
     ((q / 2 * a + b + s * first) % q) as u8
 }
 
@@ -154,7 +149,7 @@ fn links(g: [[u8; PLACES]; ROWS], p: [u8; STEPS], m: u32, i: usize) -> u32
     let mut sum = 0;
     let mut k = 0;
     while k < n {
-        sum += at(g, index(p[k]), i) * at(g, index(p[k + 1]), i);
+        sum += at(g, shape::index(p[k]), i) * at(g, shape::index(p[k + 1]), i);
         k += 1;
     }
     sum
@@ -172,12 +167,6 @@ fn wide(x: u8) -> u32
     ensures { λ y. ⌜ y ≡ x ⌝ }
 {
     x as u32
-}
-
-fn index(x: u8) -> usize
-    ensures { λ y. ⌜ y ≡ x ⌝ }
-{
-    x as usize
 }
 
 // a less b, and 0 where b is greater.

@@ -1,6 +1,6 @@
--- Which tables of gains are searched: specs/Search.antt, accepts. In order: its four tests, one after the other; what
--- holds where they are passed, and that no gain is too great there; how long a table is, as code counts it; what a
--- search answers.
+-- Which tables of gains are searched: specs/Search.antt, accepts. In order: the last of its tests, where the
+-- others are passed; what holds where all are passed, and that no gain is too great there; how long a table is, as code
+-- counts it; what a search answers.
 -- Not here: the search through the labels (AllPaths, PathLaws).  Assumes nothing.
 use Prim.Native.Nat.{ℕ, _+_, _*_, _^_, _≤_, _<_}
 use native.Mathlib.Nat.{mul-le-mul}
@@ -12,7 +12,7 @@ use mathlib.Core.List.{List}
 use lib.Dec.{eqb, leb}
 use lib.ListN.{length, getD, List·getD-eq-default}
 use lib.Pow.{pow-add}
-use borrow.Author.Tests.{leb-true, eqb-true, le-leb, lt-leb, eq-eqb, ne-eqb}
+use borrow.Author.Tests.{leb-true, eqb-true, le-leb, eq-eqb}
 use Rattle.range.specs.Below.{allBelow}
 use Rattle.range.proofs.Tests.{and-left, and-right, allBelow-at}
 use Rattle.rules.specs.Shape.{inShape, phases, carriers, greatestM}
@@ -28,19 +28,6 @@ abbrev smallGains : List ℕ → Bool
 smallGains g = allBelow (length g) (λ i. leb (getD g i 0) mostGain)
 
 module _ (h m : ℕ) (g : List ℕ) where
-  pub accepts-shape : inShape h m ≡ false → false ≡ accepts h m g
-  unfolding accepts
-  accepts-shape e = rw e
-
-  pub accepts-few : inShape h m ≡ true → greatestDecoded < h → false ≡ accepts h m g
-  unfolding accepts
-  accepts-few e b = rw (e, lt-leb h greatestDecoded b)
-
-  pub accepts-long : inShape h m ≡ true → h ≤ greatestDecoded → (length g ≡ phases h * carriers m → ⊥) →
-      false ≡ accepts h m g
-  unfolding accepts
-  accepts-long e b n = rw (e, le-leb h greatestDecoded b, ne-eqb (length g) (phases h * carriers m) n)
-
   pub accepts-small : inShape h m ≡ true → h ≤ greatestDecoded → length g ≡ phases h * carriers m →
       smallGains g ≡ accepts h m g
   unfolding accepts

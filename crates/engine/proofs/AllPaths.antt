@@ -12,16 +12,16 @@ use lib.Pow.{pow-mono, pow-add}
 use Rattle.rules.specs.Shape.{greatestM, phases, pathsInUse, pathBits}
 use Rattle.rules.specs.Label.{labels}
 use Rattle.rules.proofs.Range.{InRange, inShape-range, phases-pow}
+use Rattle.engine.specs.declared.Sizes.{Sizes}
 use Rattle.engine.specs.Search.{greatestDecoded}
-use Rattle.engine.specs.Tables.{area, AllPaths, OnePath}
+use Rattle.engine.specs.Tables.{area, Sized, AllPaths, OnePath}
 
 -- all labels are those of the paths in use
 pub labels-paths : (h m : ℕ) → pathsInUse m * phases h ^ (m + 1) ≡ labels h m
 labels-paths h m = rw (phases-pow h (m + 1)) (sym (pow-add 2 (pathBits m) (h * (m + 1))))
 
-pub all-labels : {h m q half size uses : ℕ} {g w xs ys : List ℕ} → AllPaths h m q half size uses g w xs ys →
-    uses * size ≡ labels h m
-all-labels {h = h} {m = m} p = rw (p .used, p .sized) (labels-paths h m)
+pub all-labels : {z : Sizes} → Sized z → z .uses * z .size ≡ labels (z .h) (z .m)
+all-labels {z} p = rw (p .paths, p .labels) (labels-paths (z .h) (z .m))
 
 -- the areas have room for the greatest shape, and so for each
 area-le : (h m : ℕ) → InRange h m → h ≤ greatestDecoded → 2 * phases h ^ m ≤ area
@@ -32,20 +32,18 @@ area-le h m r b =
     omega arith
 
 -- one path of all, the one with number n
-pub paths-path : (h m q half size uses l n : ℕ) (g w xs ys w′ xs′ ys′ : List ℕ) →
-    AllPaths h m q half size uses g w xs ys → n < uses → l ≡ n * size → length w′ ≡ length w → length xs′ ≡ length xs →
-    length ys′ ≡ length ys → OnePath h m q half l g w′ xs′ ys′
-paths-path h m q half size uses l n g w xs ys w′ xs′ ys′ p b e ew ex ey =
-    let top : 2 * phases h ^ m ≤ area = area-le h m (inShape-range h m (p .shape)) (p .few) in
+pub paths-path : (z : Sizes) (l n : ℕ) (g w xs ys w′ xs′ ys′ : List ℕ) → AllPaths z g w xs ys → n < z .uses →
+    l ≡ n * z .size → length w′ ≡ length w → length xs′ ≡ length xs → length ys′ ≡ length ys → OnePath z l g w′ xs′ ys′
+paths-path z l n g w xs ys w′ xs′ ys′ p b e ew ex ey =
+    let top = area-le (z .h) (z .m) (inShape-range (z .h) (z .m) (p .sizes .shape)) (p .few) in
     record {
-      shape = p .shape;
-      symbols = p .symbols;
-      halved = p .halved;
+      sizes = p .sizes;
       number = n;
-      used = omega (arith, p .used);
-      first = e ∙ ap (λ (k : ℕ). n * k) (p .sized);
+      used = omega (arith, p .sizes .paths);
+      counted = e ∙ ap (λ (k : ℕ). n * k) (p .sizes .labels);
       gains = p .gains;
       small = p .small;
-      word = ew ∙ p .areas .word;
-      areas = (omega (arith, p .areas .first), omega (arith, p .areas .second));
+      word = ew ∙ p .word;
+      first = omega (arith, p .first);
+      second = omega (arith, p .second);
     }

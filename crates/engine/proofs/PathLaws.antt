@@ -26,18 +26,32 @@ use Rattle.totals.proofs.Totals.{byLabel-total}
 use Rattle.standing.specs.declared.Standing.{Standing}
 use Rattle.standing.specs.Lead.{leadFrom}
 use Rattle.standing.proofs.Lead.{leadFrom-cong}
+use Rattle.engine.specs.declared.Sizes.{Sizes}
 use Rattle.engine.specs.Search.{mostLabels}
 use Rattle.engine.specs.Tables.{mostTotal, Runs, WordFits, tableIn, Climbing, OnePath}
 use Rattle.engine.proofs.Climbing.{wanted}
 use Rattle.engine.proofs.AllPaths.{labels-paths}
 
-module _ (h m q half l : ℕ) (g w xs ys : List ℕ) (p : OnePath h m q half l g w xs ys) where
+module _ (z : Sizes) (l : ℕ) (g w xs ys : List ℕ) (p : OnePath z l g w xs ys) where
+  abbrev h : ℕ
+  h = z .h
+
+  abbrev m : ℕ
+  m = z .m
+
+  abbrev q : ℕ
+  q = z .q
+
+  abbrev half : ℕ
+  half = z .half
+
   range : InRange h m
-  range = inShape-range h m (p .shape)
+  range = inShape-range h m (p .sizes .shape)
 
   path-labels : l + phases h ^ (m + 1) ≤ labels h m
   path-labels =
-      omega (arith, p .first, labels-paths h m, times-within (p .number) (pathsInUse m) (phases h ^ (m + 1)) (p .used))
+      let inside = times-within (p .number) (pathsInUse m) (phases h ^ (m + 1)) (p .used) in
+      omega (arith, p .counted, labels-paths h m, inside)
 
   pub path-first : l < labels h m
   path-first = omega (arith, path-labels, one-le-pow (m + 1) (phases h) (omega (arith, phases-least h m range)))
@@ -51,7 +65,7 @@ module _ (h m q half l : ℕ) (g w xs ys : List ℕ) (p : OnePath h m q half l g
 
   -- N is twice half of it
   path-carriers : carriers m ≡ 2 * half
-  path-carriers = power-left 2 ∙ ap (λ (k : ℕ). 2 * k) (sym (p .halved))
+  path-carriers = power-left 2 ∙ ap (λ (k : ℕ). 2 * k) (sym (p .sizes .halved))
 
   -- the areas have room for the first table
   pub path-room : length g ≤ length xs
@@ -60,7 +74,7 @@ module _ (h m q half l : ℕ) (g w xs ys : List ℕ) (p : OnePath h m q half l g
       let b : 2 * phases h * 2 ^ (m - 1) ≤ 2 * phases h * phases h ^ (m - 1) = mul-le-mul (le-refl (2 * phases h)) a in
       let c : phases h * carriers m ≡ 2 * phases h * 2 ^ (m - 1) =
       ap (λ (k : ℕ). phases h * k) (power-left 2) ∙ omega arith in
-      omega (arith, power-left (phases h), p .gains, p .areas .0)
+      omega (arith, power-left (phases h), p .gains, p .first)
 
   -- the path's own word, put into the gains
   module _ (v : List ℕ) (e : v ≡ listBelow (carriers m) (wordAt h m l)) where
@@ -69,8 +83,8 @@ module _ (h m q half l : ℕ) (g w xs ys : List ℕ) (p : OnePath h m q half l g
 
     pub path-wordFits : WordFits q v g
     path-wordFits = record {
-      long = p .gains ∙ rw (sym (p .symbols), sym long);
-      symbols = λ i b. rw (e, p .symbols, listBelow-at (carriers m) (wordAt h m l) i 0 (omega (arith, long)))
+      long = p .gains ∙ rw (sym (p .sizes .symbols), sym long);
+      symbols = λ i b. rw (e, p .sizes .symbols, listBelow-at (carriers m) (wordAt h m l) i 0 (omega (arith, long)))
           (wordAt-lt h m l i);
     }
 
@@ -78,8 +92,9 @@ module _ (h m q half l : ℕ) (g w xs ys : List ℕ) (p : OnePath h m q half l g
     module _ (zs : List ℕ) (f : take (length g) zs ≡ gainsWith q (length v) v g) where
       table-first : tableIn q half 1 zs ≡ gainsWith q (carriers m) v g
       table-first =
+          let e = ap (λ (k : ℕ). k * carriers m) (p .sizes .symbols) in
           let n : 2 * (q * half) * 1 ≡ length g =
-          omega (arith, p .gains, ap (λ (k : ℕ). q * k) path-carriers, ap (λ (k : ℕ). k * carriers m) (p .symbols)) in
+          omega (arith, p .gains, ap (λ (k : ℕ). q * k) path-carriers, e) in
           ap (λ (k : ℕ). take k zs) n ∙ f ∙ ap (λ (k : ℕ). gainsWith q k v g) long
 
       -- each number of it is a gain
@@ -95,8 +110,8 @@ module _ (h m q half l : ℕ) (g w xs ys : List ℕ) (p : OnePath h m q half l g
 
       first-runs : Runs q half 1 (tableIn q half 1 zs)
       first-runs = record {
-        symbols = omega (arith, p .symbols, phases-least h m range);
-        halves = omega (arith, p .halved, one-le-pow (m - 1) 2 (lit< tt));
+        symbols = omega (arith, p .sizes .symbols, phases-least h m range);
+        halves = omega (arith, p .sizes .halved, one-le-pow (m - 1) 2 (lit< tt));
         run = omega arith;
         long = ap length table-first ∙ length-gainsWith q (carriers m) v g
             ∙ omega (arith, ap (λ (k : ℕ). q * k) path-carriers);
@@ -105,21 +120,21 @@ module _ (h m q half l : ℕ) (g w xs ys : List ℕ) (p : OnePath h m q half l g
 
       -- how many labels there are for each constant, and in all, as the stages count them
       width : 1 * q ^ suc (m - 1) ≡ phases h ^ m
-      width = one-mul (q ^ suc (m - 1)) ∙ ap (λ (k : ℕ). q ^ k) stages ∙ ap (λ (k : ℕ). k ^ m) (p .symbols)
+      width = one-mul (q ^ suc (m - 1)) ∙ ap (λ (k : ℕ). q ^ k) stages ∙ ap (λ (k : ℕ). k ^ m) (p .sizes .symbols)
 
       size : 1 * q ^ suc (m - 1) * q ≡ phases h ^ (m + 1)
-      size = rw (width, p .symbols, add-one) (sym (pow-suc (phases h) m))
+      size = rw (width, p .sizes .symbols, add-one) (sym (pow-suc (phases h) m))
 
       pub path-climbing : length zs ≡ length xs → Climbing (m - 1) q half 1 l zs ys
       path-climbing s =
           let u : 2 * phases h ^ m ≡ 2 * q * 1 * q ^ (m - 1) =
-          omega (arith, power-left q, ap (λ (k : ℕ). k ^ m) (p .symbols)) in
+          omega (arith, power-left q, ap (λ (k : ℕ). k ^ m) (p .sizes .symbols)) in
           record {
-            halved = p .halved;
-            symbols = omega (arith, p .symbols, phases-least h m range);
+            halved = p .sizes .halved;
+            symbols = omega (arith, p .sizes .symbols, phases-least h m range);
             runs = first-runs;
-            first = omega (arith, p .areas .0);
-            second = omega (arith, p .areas .1);
+            first = omega (arith, p .first);
+            second = omega (arith, p .second);
             counted = omega (arith, counted-labels);
           }
         where
@@ -137,4 +152,4 @@ module _ (h m q half l : ℕ) (g w xs ys : List ℕ) (p : OnePath h m q half l g
         where
           total : (j : ℕ) → j < phases h ^ (m + 1) →
               byLabel q (phases h ^ m) (climbs q m 1 (gainsWith q (carriers m) v g)) j ≡ totalOf h m g (l + j)
-          total j b = rw (e, p .first, p .symbols) (byLabel-total h m g (p .number) j b)
+          total j b = rw (e, p .counted, p .sizes .symbols) (byLabel-total h m g (p .number) j b)

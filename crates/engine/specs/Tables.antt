@@ -7,10 +7,10 @@
 --           Climbing d q half w l xs ys    d stages and the last may follow from a table at the front of the area xs,
 --                                 and go to and fro between xs and ys; the labels are counted from l
 --           tableIn q half w xs   the table at the front of the area xs
---           Rooms m w xs ys       the areas have room for a word, and for the tables of two or four phases
---           AllPaths h m q half size uses g w xs ys    all paths may be searched with the gains g, by way of the areas
---                                 w for a word, and xs and ys for tables
---           OnePath h m q half l g w xs ys    the labels of the path whose first label is l may be searched so
+--           Sized z               z holds the numbers of a shape in range
+--           AllPaths z g w xs ys  all paths may be searched with the gains g, by way of the areas w for a word, and xs
+--                                 and ys for tables of two or four phases
+--           OnePath z l g w xs ys    the labels of the path whose first label is l may be searched so
 -- Laws: proofs/RunLaws.antt, Climbing.antt, PathLaws.antt, AllPaths.antt.  Assumes nothing: these are definitions.
 use Prim.Native.Nat.{ℕ, suc, _+_, _-_, _*_, _^_, _≤_, _<_}
 use mathlib.Core.Path.{_≡_}
@@ -18,6 +18,7 @@ use mathlib.Core.Bool.{true}
 use mathlib.Core.List.{List}
 use lib.ListN.{length, getD, take}
 use Rattle.rules.specs.Shape.{greatestM, inShape, phases, carriers, pathsInUse}
+use Rattle.engine.specs.declared.Sizes.{Sizes}
 use Rattle.engine.specs.Search.{greatestDecoded, mostLabels}
 
 -- 2 q^m for the most symbols that are decoded and the greatest m
@@ -49,30 +50,29 @@ pub record Climbing (d q half w l : ℕ) (xs ys : List ℕ) : Type 0 where
   pub second : 2 * q * w * q ^ d ≤ length ys
   pub counted : l + w * q ^ suc d * q ≤ mostLabels
 
-pub record Rooms (m : ℕ) (w xs ys : List ℕ) : Type 0 where
-  pub word : length w ≡ carriers m
+pub record Sized (z : Sizes) : Type 0 where
+  pub shape : inShape (z .h) (z .m) ≡ true
+  pub symbols : z .q ≡ phases (z .h)
+  pub halved : z .half ≡ 2 ^ (z .m - 1)
+  pub labels : z .size ≡ phases (z .h) ^ (z .m + 1)
+  pub paths : z .uses ≡ pathsInUse (z .m)
+
+pub record AllPaths (z : Sizes) (g w xs ys : List ℕ) : Type 0 where
+  pub sizes : Sized z
+  pub few : z .h ≤ greatestDecoded
+  pub gains : length g ≡ phases (z .h) * carriers (z .m)
+  pub small : (i : ℕ) → getD g i 0 * carriers (z .m) ≤ mostTotal
+  pub word : length w ≡ carriers (z .m)
   pub first : area ≤ length xs
   pub second : area ≤ length ys
 
-pub record AllPaths (h m q half size uses : ℕ) (g w xs ys : List ℕ) : Type 0 where
-  pub shape : inShape h m ≡ true
-  pub few : h ≤ greatestDecoded
-  pub symbols : q ≡ phases h
-  pub halved : half ≡ 2 ^ (m - 1)
-  pub sized : size ≡ phases h ^ (m + 1)
-  pub used : uses ≡ pathsInUse m
-  pub gains : length g ≡ phases h * carriers m
-  pub small : (i : ℕ) → getD g i 0 * carriers m ≤ mostTotal
-  pub areas : Rooms m w xs ys
-
-pub record OnePath (h m q half l : ℕ) (g w xs ys : List ℕ) : Type 0 where
-  pub shape : inShape h m ≡ true
-  pub symbols : q ≡ phases h
-  pub halved : half ≡ 2 ^ (m - 1)
+pub record OnePath (z : Sizes) (l : ℕ) (g w xs ys : List ℕ) : Type 0 where
+  pub sizes : Sized z
   pub number : ℕ
-  pub used : number < pathsInUse m
-  pub first : l ≡ number * phases h ^ (m + 1)
-  pub gains : length g ≡ phases h * carriers m
-  pub small : (i : ℕ) → getD g i 0 * carriers m ≤ mostTotal
-  pub word : length w ≡ carriers m
-  pub areas : (2 * phases h ^ m ≤ length xs) × (2 * phases h ^ m ≤ length ys)
+  pub used : number < pathsInUse (z .m)
+  pub counted : l ≡ number * phases (z .h) ^ (z .m + 1)
+  pub gains : length g ≡ phases (z .h) * carriers (z .m)
+  pub small : (i : ℕ) → getD g i 0 * carriers (z .m) ≤ mostTotal
+  pub word : length w ≡ carriers (z .m)
+  pub first : 2 * phases (z .h) ^ z .m ≤ length xs
+  pub second : 2 * phases (z .h) ^ z .m ≤ length ys

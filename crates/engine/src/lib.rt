@@ -24,7 +24,7 @@ ghost use Rattle.totals.specs.Totals.{totalOf};
 ghost use Rattle.totals.specs.Climb.{gainsWith, climbed, climbs, byLabel};
 ghost use Rattle.standing.specs.Lead.{leadFrom, lead};
 ghost use Rattle.engine.specs.Search.{mostGain, mostLabels, accepts, searched};
-ghost use Rattle.engine.specs.Tables.{Rooms, Runs, WordFits, Climbing, AllPaths, OnePath, tableIn};
+ghost use Rattle.engine.specs.Tables.{Sized, Runs, WordFits, Climbing, AllPaths, OnePath, tableIn};
 
 // The greatest h that the tables have room for, and the room: 2 q^m numbers.
 pub const GREATEST_DECODED: u32 = 2;
@@ -33,6 +33,16 @@ const AREA: usize = 2 << (GREATEST_DECODED * GREATEST_M);
 
 // The greatest gain that is taken.
 const MOST_GAIN: u32 = 1 << 25;
+
+// The numbers of a shape that the search goes by: q symbols, half of N, size labels of a path, uses paths in use.
+struct Sizes {
+    h: u32,
+    m: u32,
+    q: usize,
+    half: usize,
+    size: u64,
+    uses: u64,
+}
 
 // The standing after all labels of the shape, by the totals of their words in a table of gains: for each symbol N
 // gains, one for each place. Nobody leads where the shape is not of two or four phases, the table is not 2^h N long, or
@@ -51,23 +61,15 @@ pub fn search(h: u32, m: u32, gains: &[u32]) -> Standing
     let mut x = [0u32; AREA];
     let mut y = [0u32; AREA];
     let n = shape::power(m) as usize;
-    paths(h, m, gains, &mut word[..n], &mut x, &mut y)
+    paths(sizes_of(h, m), gains, &mut word[..n], &mut x, &mut y)
 }
 
 // Whether a table of gains can be searched.
 fn takes(h: u32, m: u32, gains: &[u32]) -> bool
     ensures { λ r. ⌜ r ≡ accepts h m (now (gains .entry)) ⌝ }
 {
-    if !shape::in_shape(h, m) {
-        return false;
-    }
-    if GREATEST_DECODED < h {
-        return false;
-    }
-    if gains.len() != shape::power(h + m) as usize {
-        return false;
-    }
-    small(gains)
+    shape::in_shape(h, m)
+        && (h <= GREATEST_DECODED && (gains.len() == shape::power(h + m) as usize && small(gains)))
 }
 
 // Whether no gain is above the greatest.
@@ -84,35 +86,28 @@ fn small(gains: &[u32]) -> bool
     true
 }
 
-// All paths in use, with the numbers that the shape gives.
-fn paths(h: u32, m: u32, gains: &[u32], word: &mut [u8], x: &mut [u32], y: &mut [u32]) -> Standing
-    requires { ⌜ accepts h m (now gains) ≡ true ⌝ }
-    requires { ⌜ Rooms m (now word) (now x) (now y) ⌝ }
-    ensures { λ r. ⌜ r ≡ lead (totalOf h m (now (gains .entry))) (labels h m) ⌝ }
+// The numbers that a shape in range gives.
+fn sizes_of(h: u32, m: u32) -> Sizes
+    requires { ⌜ inShape h m ≡ true ⌝ }
+    ensures { λ r. ⌜ Sized r × (r .h ≡ h) × (r .m ≡ m) ⌝ }
 {
-    let q = shape::power(h) as usize;
-    let half = shape::power(m - 1) as usize;
-    let size = shape::power(h * (m + 1));
-    let uses = shape::power(shape::path_bits(m));
-    each(h, m, q, half, size, uses, gains, word, x, y)
+    Sizes {
+        h,
+        m,
+        q: shape::power(h) as usize,
+        half: shape::power(m - 1) as usize,
+        size: shape::power(h * (m + 1)),
+        uses: shape::power(shape::path_bits(m)),
+    }
 }
 
-// Path after path, each with as many labels as there are choices of its coefficients and constant.
-fn each(
-    h: u32,
-    m: u32,
-    q: usize,
-    half: usize,
-    size: u64,
-    uses: u64,
-    gains: &[u32],
-    word: &mut [u8],
-    x: &mut [u32],
-    y: &mut [u32],
-) -> Standing
-    requires { ⌜ AllPaths h m q half size uses (now gains) (now word) (now x) (now y) ⌝ }
-    ensures { λ r. ⌜ r ≡ lead (totalOf h m (now (gains .entry))) (labels h m) ⌝ }
+// All paths in use, one after the other.
+fn paths(z: Sizes, gains: &[u32], word: &mut [u8], x: &mut [u32], y: &mut [u32]) -> Standing
+    requires { ⌜ AllPaths z (now gains) (now word) (now x) (now y) ⌝ }
+    ensures { λ r. ⌜ r ≡ lead (totalOf (z .h) (z .m) (now (gains .entry))) (labels (z .h) (z .m)) ⌝ }
 {
+    let size = z.size;
+    let uses = z.uses;
     let mut st = Standing {
         best: 0,
         second: 0,
@@ -121,7 +116,7 @@ fn each(
     let mut first = 0;
     let mut n = 0;
     while n < uses {
-        st = path(h, m, q, half, first, gains, word, x, y, st);
+        st = path(z, first, gains, word, x, y, st);
         first += size;
         n += 1;
     }
@@ -130,10 +125,7 @@ fn each(
 
 // The standing after the labels of one path, counted from first on, the label of its zero coefficients.
 fn path(
-    h: u32,
-    m: u32,
-    q: usize,
-    half: usize,
+    z: Sizes,
     first: u64,
     gains: &[u32],
     word: &mut [u8],
@@ -141,13 +133,13 @@ fn path(
     y: &mut [u32],
     before: Standing,
 ) -> Standing
-    requires { ⌜ OnePath h m q half first (now gains) (now word) (now x) (now y) ⌝ }
-    ensures { λ r. ⌜ r ≡ leadFrom first (λ j. totalOf h m (now (gains .entry)) (first + j))
-        (phases h ^ (m + 1)) before ⌝ }
+    requires { ⌜ OnePath z first (now gains) (now word) (now x) (now y) ⌝ }
+    ensures { λ r. ⌜ r ≡ leadFrom first (λ j. totalOf (z .h) (z .m) (now (gains .entry)) (first + j))
+        (phases (z .h) ^ (z .m + 1)) before ⌝ }
 {
-    own_word(h, m, first, word);
-    begin(q, word, gains, x);
-    climb(m - 1, q, half, 1, first, x, y, before)
+    own_word(z.h, z.m, first, word);
+    begin(z.q, word, gains, x);
+    climb(z.m - 1, z.q, z.half, 1, first, x, y, before)
 }
 
 // The word of a label.

@@ -15,23 +15,13 @@ pub(super) fn stage(q: usize, half: usize, w: usize, from: &[u32], to: &mut [u32
     requires { ⌜ length (now to) ≡ q * half * q * w ⌝ }
     ensures { λ _. ⌜ now (to .exit) ≡ climbed q half w (now (from .entry)) ⌝ }
 {
-    if w == 1 {
-        pass(q, half, 1, from, to);
-        return;
+    match w {
+        1 => pass(q, half, 1, from, to),
+        4 => pass(q, half, 4, from, to),
+        16 => pass(q, half, 16, from, to),
+        64 => pass(q, half, 64, from, to),
+        _ => pass(q, half, w, from, to),
     }
-    if w == 4 {
-        pass(q, half, 4, from, to);
-        return;
-    }
-    if w == 16 {
-        pass(q, half, 16, from, to);
-        return;
-    }
-    if w == 64 {
-        pass(q, half, 64, from, to);
-        return;
-    }
-    pass(q, half, w, from, to);
 }
 
 // One stage for runs of any length: for each run t the runs of its coefficients.

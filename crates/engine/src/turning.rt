@@ -35,14 +35,8 @@ fn turn(q: usize, s: usize, o: usize, word: &[u8], gains: &[u32], to: &mut [u32]
     let n = word.len();
     let mut i = 0;
     while i < n {
-        let e = wrap(q, s + index(word[i]));
+        let e = wrap(q, s + shape::index(word[i]));
         to[o + i] = gains[e * n + i];
         i += 1;
     }
-}
-
-fn index(x: u8) -> usize
-    ensures { λ y. ⌜ y ≡ x ⌝ }
-{
-    x as usize
 }

@@ -4,8 +4,6 @@
 // parse, symbols and entries the pieces of a line. tests/cases.md says the form of a line and of its answer.
 use libc::STDIN_FILENO;
 use show::say;
-ghost use Prim.Native.Nat.{_≤_};
-ghost use lib.ListN.{length};
 
 mod areas;
 mod entries;
@@ -36,29 +34,14 @@ fn read(text: &mut [u8]) {
     answers(&text[..n]);
 }
 
-// Answers each line of a text. A line ends with a newline; the last may do without.
+// Answers each line of a text. A line ends at its newline, or with the text.
 fn answers(text: &[u8]) {
     let mut at = 0;
     while at < text.len() {
-        let end = line_end(text, at);
+        let end = bytes::scan::find(text, at, text.len(), b'\n');
         answer(&text[at..end]);
         at = end + 1;
     }
-}
-
-// Where the line that begins at a byte ends: at its newline, or with the text.
-fn line_end(text: &[u8], start: usize) -> usize
-    requires { ⌜ start ≤ length (now text) ⌝ }
-    ensures { λ r. ⌜ (start ≤ r) × (r ≤ length (now (text .entry))) ⌝ }
-{
-    let mut at = start;
-    while at < text.len() {
-        if text[at] == b'\n' {
-            return at;
-        }
-        at += 1;
-    }
-    at
 }
 
 fn answer(line: &[u8]) {

@@ -1,13 +1,14 @@
 -- Laws of tests, and of allBelow and firstBelow. In order: below and at least; tests that are passed together; both
--- sides of a conjunction, and of a disjunction that fails; a test not passed; a claim about all below n, one more; all,
--- from each place, at each place, refuted; the first, found, not found, and back.
+-- sides of a conjunction, the conjunction by its first side, both sides of a disjunction that fails; a test not passed;
+-- a claim about all below n, one more; all, from each place, at each place, refuted; the first, found, not found, and
+-- back.
 -- Not here: sums and counts (Sums), lists (Lists).  Assumes nothing.
 use Prim.Native.Nat.{ℕ, zero, suc, _+_, _<_, zero-le, suc-le-suc}
 use native.Mathlib.Nat.{not-suc-le-zero, le-of-suc-le-suc}
 use native.Mathlib.Decide.{ℕ-discrete}
 use native.Mathlib.Omega.{arith}
-use mathlib.Core.Path.{_≡_, refl, sym, _∙_, ap, subst}
-use mathlib.Core.Bool.{Bool, true, false, not, _&&_, _||_, false≢true, Bool·not-not}
+use mathlib.Core.Path.{_≡_, refl, sym, _∙_, subst}
+use mathlib.Core.Bool.{Bool, true, false, not, _&&_, _||_, false≢true}
 use mathlib.Core.Logic.{_↔_}
 use mathlib.Core.Option.{Option, none, some}
 use lib.Dec.{leb, ltb, eqb}
@@ -21,9 +22,6 @@ ltb-not-leb a b = go (leb b a) refl
     go : (t : Bool) → leb b a ≡ t → ltb a b ≡ not t
     go true e = le-ltb a b (leb-true b a e)
     go false e = lt-ltb a b (leb-false b a e)
-
-pub leb-not-ltb : (a b : ℕ) → leb a b ≡ not (ltb b a)
-leb-not-ltb a b = sym (Bool·not-not (leb a b)) ∙ ap not (sym (ltb-not-leb b a))
 
 -- two tests that are passed together are one test
 pub bool-of-iff : (a b : Bool) → ((a ≡ true) ↔ (b ≡ true)) → a ≡ b
@@ -47,7 +45,14 @@ and-right false b e = absurd (false≢true e)
 pub and-of : (a b : Bool) → a ≡ true → b ≡ true → (a && b) ≡ true
 and-of a b p q = rw (p, q)
 
--- and of a disjunction that fails
+-- a conjunction by its first side, as code answers it
+pub and-of-true : (a b : Bool) → a ≡ true → b ≡ (a && b)
+and-of-true a b p = rw p
+
+pub and-of-false : (a b : Bool) → a ≡ false → a ≡ (a && b)
+and-of-false a b p = rw p
+
+-- both sides of a disjunction that fails
 pub or-false : (a b : Bool) → (a || b) ≡ false → (a ≡ false) × (b ≡ false)
 or-false true b e = absurd (false≢true (sym e))
 or-false false b e = (refl, e)

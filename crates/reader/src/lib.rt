@@ -90,11 +90,5 @@ fn low(h: u32, m: u32, word: &[u8]) -> u64
         let at = shape::power(m - k) as usize;
         number = number * q + shape::minus(q, word[at], word[0]);
     }
-    number * q + wide(word[0])
-}
-
-fn wide(x: u8) -> u64
-    ensures { λ y. ⌜ y ≡ x ⌝ }
-{
-    x as u64
+    number * q + shape::wide(word[0])
 }

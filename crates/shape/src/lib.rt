@@ -28,26 +28,14 @@ const PATH_BITS: [u32; STEPS - 1] = [0, 1, 3, 5];
 pub fn in_shape(h: u32, m: u32) -> bool
     ensures { λ r. ⌜ r ≡ inShape h m ⌝ }
 {
-    if h < 1 {
-        return false;
-    }
-    if GREATEST_H < h {
-        return false;
-    }
-    in_m(m)
+    1 <= h && (h <= GREATEST_H && in_m(m))
 }
 
 // Whether m is in its range: all that the transform asks of a shape.
 pub fn in_m(m: u32) -> bool
     ensures { λ r. ⌜ r ≡ inM m ⌝ }
 {
-    if m < 2 {
-        return false;
-    }
-    if GREATEST_M < m {
-        return false;
-    }
-    true
+    2 <= m && m <= GREATEST_M
 }
 
 // 2^e where that fits 64 bits, else 0.
@@ -108,8 +96,15 @@ fn lesser(x: u64, y: u64) -> u64
     if x < y { x } else { y }
 }
 
-fn wide(x: u8) -> u64
-    ensures { λ y. ⌜ y ≡ x ⌝ }
+// A symbol or a step as a number to count with, and as one to index with. Who calls them need not show that it fits.
+pub fn wide(x: u8) -> u64
+    ensures { λ r. ⌜ r ≡ x ⌝ }
 {
     x as u64
+}
+
+pub fn index(x: u8) -> usize
+    ensures { λ r. ⌜ r ≡ x ⌝ }
+{
+    x as usize
 }

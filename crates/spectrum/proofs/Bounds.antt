@@ -1,21 +1,26 @@
 -- How great the values after a stage are: rules' Spectrum. `mag z < w` says -w ≤ z < w, so that -32,768 has 32,767.
--- In order: one stage doubles a bound; k stages multiply it by 2^k; a bound for every stage of every m in range, which
--- follows from the range of the inputs and lies far inside 32 bits.
+-- In order: what is accepted is small; one stage doubles a bound; k stages multiply it by 2^k; a bound for every stage
+-- of every m in range, which follows from the range of the inputs.
 -- Not here: what the values are (Entries).  Assumes nothing.
 use Prim.Native.Nat.{ℕ, zero, suc, _+_, _-_, _*_, _^_, _≤_, _<_}
 use native.Mathlib.Nat.{pow-succ', mul-assoc, mul-le-mul-right, lt-of-lt-of-le}
 use native.Mathlib.Omega.{arith}
 use mathlib.Core.Path.{_≡_, _∙_, ap}
 use mathlib.Core.Bool.{true}
-use lib.Dec.{lit≤}
-use lib.IntN.{ℤ}
+use lib.Dec.{leb}
+use lib.IntN.{ℤ, pos, negsuc}
 use lib.Pow.{pow-mono}
 use lib.Signed.{mag}
+use borrow.Author.Tests.{leb-true}
+use Rattle.range.proofs.Tests.{and-left}
 use Rattle.range.proofs.SumsSigned.{mag-add, mag-sub}
 use Rattle.rules.specs.Shape.{greatestM, carriers}
 use Rattle.rules.specs.Spectrum.{widest, accepted, stage, stages}
-use Rattle.spectrum.proofs.Inputs.{accepted-mag}
 use Rattle.spectrum.proofs.Pairs.{stage-first, stage-second, pairs-all}
+
+pub accepted-mag : (z : ℤ) → accepted z ≡ true → mag z < widest
+accepted-mag (pos n) e = omega (arith, leb-true n (widest - 1) e)
+accepted-mag (negsuc n) e = omega (arith, leb-true n (widest - 1) (and-left (leb n (widest - 1)) true e))
 
 pub stage-bound : (m k w : ℕ) (y : ℕ → ℤ) → ((i : ℕ) → i < carriers m → mag (y i) < w) → (i : ℕ) → 1 ≤ k → k ≤ m →
     i < carriers m → mag (stage m k y i) < w + w
@@ -47,7 +52,3 @@ pub stages-most : (m k : ℕ) (y : ℕ → ℤ) → m ≤ greatestM → ((i : �
 stages-most m k y h a i l b =
     lt-of-lt-of-le (stages-bound m k widest y (λ j c. accepted-mag (y j) (a j c)) i l b)
     (mul-le-mul-right widest (pow-mono {i = k} {j = greatestM} (omega arith)))
-
--- a number of 32 bits has a magnitude below 2^31, so neither an entry nor a sum or difference of two leaves them
-pub mostEntry-le : mostEntry ≤ 2 ^ 30
-mostEntry-le = lit≤ tt

@@ -1,5 +1,4 @@
 -- Laws of the spectrum and its stages.
-pub mod Inputs
 pub mod Pairs
 pub mod Blocks
 pub mod Shared

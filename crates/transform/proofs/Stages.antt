@@ -9,6 +9,7 @@ use native.Mathlib.Omega.{arith}
 use mathlib.Core.Path.{_≡_, refl, sym, _∙_, ap}
 use mathlib.Core.Bool.{true}
 use mathlib.Core.List.{List}
+use lib.Dec.{lit≤}
 use lib.IntN.{ℤ, pos}
 use lib.ListN.{length}
 use lib.Pow.{pow-pos}
@@ -20,8 +21,12 @@ use Rattle.rules.specs.Place.{digit}
 use Rattle.rules.specs.Spectrum.{accepted, stage, stages}
 use Rattle.spectrum.proofs.Blocks.{block-count}
 use Rattle.spectrum.proofs.Places.{stages-turn}
-use Rattle.spectrum.proofs.Bounds.{stages-most, mostEntry-le}
-use Rattle.transform.specs.Steps.{butterfly, Readable, firstAt, secondAt}
+use Rattle.spectrum.proofs.Bounds.{mostEntry, stages-most}
+use Rattle.transform.specs.Steps.{addable, butterfly, Readable, firstAt, secondAt}
+
+-- no entry of any stage is too great
+pub mostEntry-le : mostEntry ≤ addable
+mostEntry-le = lit≤ tt
 
 butterfly-is-stage : (m k : ℕ) (y : ℕ → ℤ) (i : ℕ) → butterfly (2 ^ (m - k)) y i ≡ stage m k y i
 unfolding butterfly stage digit

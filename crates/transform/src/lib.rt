@@ -83,27 +83,14 @@ fn stage(s: usize, n: usize, from: &[i32], to: &mut [i32])
     requires { ⌜ n ≤ length (now to) ⌝ }
     ensures { λ _. ⌜ now (to .exit) ≡ filled n (butterfly s (entry (now (from .entry)))) (now (to .entry)) ⌝ }
 {
-    if s == 1 {
-        pass(1, n, from, to);
-        return;
+    match s {
+        1 => pass(1, n, from, to),
+        2 => pass(2, n, from, to),
+        4 => pass(4, n, from, to),
+        8 => pass(8, n, from, to),
+        16 => pass(16, n, from, to),
+        _ => pass(s, n, from, to),
     }
-    if s == 2 {
-        pass(2, n, from, to);
-        return;
-    }
-    if s == 4 {
-        pass(4, n, from, to);
-        return;
-    }
-    if s == 8 {
-        pass(8, n, from, to);
-        return;
-    }
-    if s == 16 {
-        pass(16, n, from, to);
-        return;
-    }
-    pass(s, n, from, to);
 }
 
 // One stage of any stride: block after block of 2 s entries.

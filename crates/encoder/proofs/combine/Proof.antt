@@ -32,10 +32,7 @@ loop-holds : tie.Need-loop-holds Inv-loop μ-loop
 loop-holds c = (omega arith, refl, filled-zero _ _)
 
 symbol-requires : tie.Need-symbol-requires Inv-loop μ-loop
-symbol-requires c κs =
-    let pre = start c .pre in
-    let most = pre .1 .1 .1 in
-    (pre .0, (pre .1 .0, (pre .1 .1 .0, (most .0, most .1, most .2, omega (arith, most .3, inside c)))))
+symbol-requires c κs = (start c .pre .0, omega (arith, start c .pre .1, inside c))
 
 slice-write-out : tie.Need-slice-write-out Inv-loop μ-loop
 slice-write-out c = search needs

@@ -97,19 +97,15 @@ combine-requires : tie.Need-combine-requires
 combine-requires c κs =
     let h = held (c .before) in
     let p = at-power (c .before) in (
-      held-cells _ _ _ _ _ _ _ _ _ h,
-      (
-        held-small _ _ _ _ _ _ _ _ _ h,
-        (
-          held-walk _ _ _ _ _ _ _ _ _ h,
-          (
-            omega (arith, base p, phases-least _ _ (ranged p)),
-            base-most p,
-            lift-small p,
-            omega (arith, start p .pre .1 .1 .1, carriers-most _ _ (ranged p)),
-          ),
-        ),
-      ),
+      record {
+        cells = held-cells _ _ _ _ _ _ _ _ _ h;
+        small = held-small _ _ _ _ _ _ _ _ _ h;
+        walk = held-walk _ _ _ _ _ _ _ _ _ h;
+        least = omega (arith, base p, phases-least _ _ (ranged p));
+        most = base-most p;
+        lift = lift-small p;
+      },
+      omega (arith, start p .pre .1 .1 .1, carriers-most _ _ (ranged p)),
     )
 
 same-length : tie.Need-same-length

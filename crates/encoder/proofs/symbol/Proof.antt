@@ -27,8 +27,8 @@ index-requires c κs = search needs
 at-requires : tie.Need-at-requires
 at-requires c κs =
     let pre = c .before .before .before .pre in
-    let walk = pre .1 .1 .0 in
-    (omega (arith, c .index .ensures, pre .0 .most, walk .steps 0 (omega (arith, walk .least))), pre .1 .1 .1 .3)
+    let walk = pre .0 .walk in
+    (omega (arith, c .index .ensures, pre .0 .cells .most, walk .steps 0 (omega (arith, walk .least))), pre .1)
 
 -- the calls of links and linear and the function's entry, seen from the last call
 abbrev at-linear : tie.After-at → tie.After-linear
@@ -51,25 +51,23 @@ links-small : (c : tie.After-at) → start c .args .q / 2 * at-links c .links .r
 links-small c =
     let args = start c .args in
     let pre = start c .pre in
-    let most = pre .1 .1 .1 in
-    let bound = linksOf-le (args .m) (args .g) (pre .0) (args .i) (most .3) (args .t2) (pre .1 .1 .0) in
+    let bound = linksOf-le (args .m) (args .g) (pre .0 .cells) (args .i) (pre .1) (args .t2) (pre .0 .walk) in
     mul-le-mul {n₁ = args .q / 2} {m₁ = at-links c .links .result} {n₂ = halfTurn greatestH} {m₂ = mostLinks}
-    (omega (arith, most .1)) (omega (arith, at-links c .links .ensures, bound))
+    (omega (arith, pre .0 .most)) (omega (arith, at-links c .links .ensures, bound))
 
 linear-small : (c : tie.After-at) → at-linear c .linear .result ≤ mostLinear
 linear-small c =
     let args = start c .args in
     let pre = start c .pre in
-    let bound = linearOf-le (args .m) (args .g) (pre .0) (args .i) (pre .1 .1 .1 .3) (args .c) (pre .1 .0) in
+    let bound = linearOf-le (args .m) (args .g) (pre .0 .cells) (args .i) (pre .1) (args .c) (pre .0 .small) in
     omega (arith, at-linear c .linear .ensures, bound)
 
 first-small : (c : tie.After-at) → start c .args .s * c .at .result ≤ halfTurn greatestH
 first-small c =
     let args = start c .args in
     let pre = start c .pre in
-    let most = pre .1 .1 .1 in
-    let bound = first-le (args .m) (args .g) (pre .0) (args .i) (most .3) (args .t2) (pre .1 .1 .0) in
-    mul-le-mul {n₁ = args .s} {m₁ = c .at .result} {n₂ = halfTurn greatestH} {m₂ = 1} (most .2)
+    let bound = first-le (args .m) (args .g) (pre .0 .cells) (args .i) (pre .1) (args .t2) (pre .0 .walk) in
+    mul-le-mul {n₁ = args .s} {m₁ = c .at .result} {n₂ = halfTurn greatestH} {m₂ = 1} (pre .0 .lift)
     (omega (arith, first-is c, bound))
 
 mul-result : tie.Need-mul-result
@@ -90,9 +88,9 @@ rem-result c = search needs
 cast-result : tie.Need-cast-result
 cast-result c =
     let args = start c .args in
-    let most = start c .pre .1 .1 .1 in
+    let small = start c .pre .0 in
     let sum = args .q / 2 * at-links c .links .result + at-linear c .linear .result + args .s * c .at .result in
-    omega (arith, mod-lt sum {m = args .q} (omega (arith, most .0)), most .1)
+    omega (arith, mod-lt sum {m = args .q} (omega (arith, small .least)), small .most)
 
 returns : tie.Need-returns
 unfolding symbolOf

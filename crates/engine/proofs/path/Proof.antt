@@ -17,29 +17,29 @@ abbrev worded : tie.After-begin-arg2 → tie.After-own-word
 worded c = c .before .before .before .before
 
 abbrev begun : tie.After-climb → tie.After-begin
-begun c = c .before .before .before .before .before
+begun c = c .before .before .before .before .before .before
 
 own-word-requires : tie.Need-own-word-requires
 own-word-requires c κs =
     let p = start c .pre in
-    (p .shape, path-first _ _ _ _ _ _ _ _ _ p, p .word)
+    (p .sizes .shape, path-first _ _ _ _ _ _ p, p .word)
 
 begin-requires : tie.Need-begin-requires
 begin-requires c κs =
     let own = worded c in
     let p = start (own .before) .pre in
-    (path-wordFits _ _ _ _ _ _ _ _ _ p _ (own .own-word .ensures), path-room _ _ _ _ _ _ _ _ _ p)
+    (path-wordFits _ _ _ _ _ _ p _ (own .own-word .ensures), path-room _ _ _ _ _ _ p)
 
 sub-climb : tie.Need-sub-climb
 sub-climb c =
-    let s = start (worded (c .before .before .before) .before) in
-    omega (arith, inShape-range (s .args .h) (s .args .m) (s .pre .shape) .m-least)
+    let s = start (worded (c .before .before .before .before) .before) in
+    omega (arith, inShape-range (s .args .z .h) (s .args .z .m) (s .pre .sizes .shape) .m-least)
 
 climb-requires : tie.Need-climb-requires
 climb-requires c κs =
-    let began = c .before .before .before .before in
+    let began = c .before .before .before .before .before in
     let own = worded (began .before) in
-    path-climbing _ _ _ _ _ _ _ _ _ (start (own .before) .pre) _ (own .own-word .ensures) _ (began .begin .ensures .0)
+    path-climbing _ _ _ _ _ _ (start (own .before) .pre) _ (own .own-word .ensures) _ (began .begin .ensures .0)
     (began .begin .ensures .1)
 
 same-length : tie.Need-same-length
@@ -57,7 +57,7 @@ returns c =
     let began = begun climbed in
     let own = worded (began .before) in
     let s = start (own .before) in
-    path-returned _ _ _ _ _ (now (s .args .gains)) _ _ _ (s .pre) _ (own .own-word .ensures) _
+    path-returned _ _ (now (s .args .gains)) _ _ _ (s .pre) _ (own .own-word .ensures) _
     (began .begin .ensures .0) (s .args .before) (climbed .climb .result) (climbed .climb .ensures)
 
 pub path-spec : {M : Type 1} → statement M

@@ -1,110 +1,130 @@
--- `engine::paths` meets its contract: the powers are the numbers that the shape gives.
+-- `engine::paths` meets its contract: the labels of one path after the other are all labels.
+-- Invariant: the labels before first, those of n paths, are gone through. Measure: the paths left.
 -- Assumes nothing.
-use Prim.Native.Nat.{_+_, _^_}
+use Prim.Native.Nat.{ℕ, _+_, _-_, _*_, _≤_}
+use native.Mathlib.Nat.{zero-add}
 use native.Mathlib.Omega.{arith}
-use mathlib.Core.Path.{_≡_, _∙_}
+use mathlib.Core.Path.{_≡_, refl, sym, _∙_, ap}
+use lib.ListN.{length}
 use denote.Ref.{now}
-use borrow.Author.Needs.{needs}
-use Rattle.rules.specs.Shape.{phases, pathsInUse}
-use Rattle.rules.proofs.Range.{InRange, inShape-range, coefficientBits-le}
-use Rattle.shape.proofs.Powers.{power-is, power-labels, power-uses}
-use Rattle.engine.proofs.Accepting.{Accepted, accepts-given, accepted-small}
+use Rattle.range.proofs.Products.{times-within}
+use Rattle.rules.proofs.Range.{inShape-range, messages-most}
+use Rattle.totals.specs.Totals.{totalOf}
+use Rattle.standing.specs.Lead.{nobody, leadFrom, lead}
+use Rattle.standing.proofs.Lead.{leadFrom-none, leadFrom-end, leadFrom-stretch}
+use Rattle.engine.specs.Search.{mostLabels}
+use Rattle.engine.proofs.AllPaths.{all-labels, paths-path}
 use Rattle.engine.proofs.paths.Statement.{statement}
 use Rattle.engine.proofs.paths.Tie as tie
 
--- the function's entry, seen from behind the first power
-abbrev start : tie.After-power → tie.Start
-start c = c .before .before .before .before .before
+abbrev Inv-loop : tie.InvT-loop
+Inv-loop z gains word₀ x₀ y₀ size uses st₀ first₀ n₀ word x y st first n =
+    (n ≤ uses)
+    × (first ≡ n * size)
+    × (st ≡ leadFrom 0 (totalOf (z .h) (z .m) gains) first nobody)
+    × (length word ≡ length word₀)
+    × (length x ≡ length x₀)
+    × (length y ≡ length y₀)
 
--- what the gains that are accepted say
-accepted : (s : tie.Start) → Accepted (s .args .h) (s .args .m) (now (s .args .gains))
-accepted s = accepts-given _ _ _ (s .pre .0)
+abbrev μ-loop : tie.MeasureT-loop
+μ-loop z gains word₀ x₀ y₀ size uses st₀ first₀ n₀ word x y st first n = uses - n
 
-ranged : (s : tie.Start) → InRange (s .args .h) (s .args .m)
-ranged s = inShape-range _ _ (accepted s .shape)
+loop-holds : tie.Need-loop-holds Inv-loop μ-loop
+loop-holds c = (omega arith, omega arith, leadFrom-none 0 _ 0 nobody refl, refl, refl, refl)
 
-power-requires : tie.Need-power-requires
-power-requires c κs = search needs
+-- the function's entry, seen from the loop and from inside it; the path gone through, and the turn, seen from its end
+abbrev entry : tie.At-loop Inv-loop μ-loop → tie.Start Inv-loop μ-loop
+entry c = c .before .before .before .before .before
 
-sub-power : tie.Need-sub-power
-sub-power c = omega (arith, ranged (start c) .m-least)
+abbrev start : tie.In-loop Inv-loop μ-loop → tie.Start Inv-loop μ-loop
+start c = entry (c .before)
 
-power-requires-2 : tie.Need-power-requires-2
-power-requires-2 c κs = search needs
+abbrev passed : tie.After-slice-known6 Inv-loop μ-loop → tie.After-path Inv-loop μ-loop
+passed c = c .before .before .before .before .before .before
 
-add-power : tie.Need-add-power
-add-power c = omega (arith, ranged (start (c .before)) .m-most)
+abbrev turn : tie.After-slice-known6 Inv-loop μ-loop → tie.In-loop Inv-loop μ-loop
+turn c = passed c .before .before .before .before
 
-mul-power : tie.Need-mul-power
-mul-power c =
-    let s = start (c .before) in
-    omega (arith, coefficientBits-le (s .args .h) (s .args .m) (ranged s))
+abbrev totals : tie.Start Inv-loop μ-loop → ℕ → ℕ
+totals s = totalOf (s .args .z .h) (s .args .z .m) (now (s .args .gains))
 
-power-requires-3 : tie.Need-power-requires-3
-power-requires-3 c κs = search needs
+-- the labels of a path can be counted
+counted : (c : tie.In-loop Inv-loop μ-loop) → let s = start c in
+    c .before .loop .first + s .args .z .size ≤ mostLabels
+counted c =
+    let at = c .before .loop in
+    let s = start c in
+    omega (
+      arith,
+      at .inv .1,
+      times-within (at .n) (s .args .z .uses) (s .args .z .size) (c .loop-test .taken),
+      all-labels (s .pre .sizes),
+      messages-most (s .args .z .h) (s .args .z .m) (inShape-range (s .args .z .h) (s .args .z .m) (s .pre .sizes .shape)),
+    )
 
-path-bits-requires : tie.Need-path-bits-requires
-path-bits-requires c κs = search needs
+path-requires : tie.Need-path-requires Inv-loop μ-loop
+path-requires c κs =
+    let in-loop = c .before .before .before in
+    let at = in-loop .before .loop in
+    let s = start in-loop in
+    paths-path _ _ (at .n) _ _ _ _ _ _ _ (s .pre) (in-loop .loop-test .taken) (at .inv .1) (at .inv .3) (at .inv .4)
+    (at .inv .5)
 
-power-requires-4 : tie.Need-power-requires-4
-power-requires-4 c κs = search needs
+add-first : tie.Need-add-first Inv-loop μ-loop
+add-first c = omega (arith, counted (turn c))
 
--- the labels of a path, and the paths in use
-sized : (c : tie.After-power3) → let args = start (c .before .before) .args in
-    c .power3 .result ≡ phases (args .h) ^ (args .m + 1)
-sized c =
-    let s = start (c .before .before) in
-    c .power3 .ensures ∙ power-labels (s .args .h) (s .args .m) (ranged s)
+add-n : tie.Need-add-n Inv-loop μ-loop
+add-n c = omega (arith, turn c .loop-test .taken)
 
-used : (c : tie.After-power4) → c .power4 .result ≡ pathsInUse (start (c .before .before .before .before) .args .m)
-used c =
-    let m = start (c .before .before .before .before) .args .m in
-    c .power4 .ensures ∙ power-uses m _ (c .before .path-bits .ensures)
+loop-less : tie.Need-loop-less Inv-loop μ-loop
+loop-less c = omega arith
 
-each-requires : tie.Need-each-requires
-each-requires c κs =
-    let fourth = c .before .before .before in
-    let third = fourth .before .before in
-    let first = third .before .before in
-    let s = start first in
-    let r = ranged s in
-    record {
-      shape = accepted s .shape;
-      few = accepted s .few;
-      symbols = first .power .ensures ∙ power-is (s .args .h) (omega (arith, r .h-most));
-      halved = third .before .power2 .ensures ∙ power-is _ (omega (arith, r .m-most));
-      sized = sized third;
-      used = used fourth;
-      gains = accepted s .long;
-      small = accepted-small _ _ _ (accepted s);
-      areas = s .pre .1;
-    }
+loop-again : tie.Need-loop-again Inv-loop μ-loop
+loop-again c =
+    let in-loop = turn c in
+    let at = in-loop .before .loop in
+    let s = start in-loop in
+    let done = passed c .path in
+    let kept = done .kept .1 .1 .1 in (
+      omega (arith, in-loop .loop-test .taken),
+      omega (arith, at .inv .1),
+      rw (s .pre .sizes .labels) (leadFrom-stretch 0 (totals s) (at .first) _ (at .first) _ nobody (at .st)
+          (done .result) (at .inv .2) (sym (zero-add (at .first))) (λ j _. refl) (done .ensures)),
+      kept .0 ∙ at .inv .3,
+      kept .1 .0 ∙ at .inv .4,
+      kept .1 .1 .0 ∙ at .inv .5,
+    )
 
-same-length : tie.Need-same-length
-same-length c = search needs
+same-length : tie.Need-same-length Inv-loop μ-loop
+same-length c = c .before .loop .inv .3
 
-same-length-2 : tie.Need-same-length-2
-same-length-2 c = search needs
+same-length-2 : tie.Need-same-length-2 Inv-loop μ-loop
+same-length-2 c = c .before .loop .inv .4
 
-same-length-3 : tie.Need-same-length-3
-same-length-3 c = search needs
+same-length-3 : tie.Need-same-length-3 Inv-loop μ-loop
+same-length-3 c = c .before .loop .inv .5
 
-returns : tie.Need-returns
-returns c = search needs
+returns : tie.Need-returns Inv-loop μ-loop
+unfolding lead
+returns c =
+    let at = c .before .loop in
+    let s = entry (c .before) in
+    let e : at .n ≡ s .args .z .uses = omega (arith, at .inv .0, c .loop-test .left) in
+    leadFrom-end 0 (totals s) (at .first) _ nobody (at .st) (at .inv .2)
+    (at .inv .1 ∙ ap (λ (k : ℕ). k * s .args .z .size) e ∙ all-labels (s .pre .sizes))
 
 pub paths-spec : {M : Type 1} → statement M
 paths-spec =
     tie.close
     (tie.spec
-    power-requires
-    sub-power
-    power-requires-2
-    add-power
-    mul-power
-    power-requires-3
-    path-bits-requires
-    power-requires-4
-    each-requires
+    Inv-loop
+    μ-loop
+    loop-holds
+    path-requires
+    add-first
+    add-n
+    loop-less
+    loop-again
     same-length
     same-length-2
     same-length-3

@@ -1,7 +1,7 @@
 -- `transform::differences` meets its contract: place after place of the second half of a block it writes what the stage
 -- writes. Invariant: a loop from the middle to the end, which writes, stands at i. Measure: the places left.
 -- Assumes nothing.
-use Prim.Native.Nat.{_+_, _-_, _<_, _^_}
+use Prim.Native.Nat.{_+_, _-_, _<_}
 use native.Mathlib.Omega.{arith}
 use mathlib.Core.Path.{sym, _∙_}
 use lib.ListN.{length}
@@ -9,7 +9,7 @@ use denote.Ref.{now}
 use Rattle.range.specs.Signed.{entry}
 use Rattle.range.proofs.SumsSigned.{mag-sub}
 use Rattle.range.proofs.Fills.{Filling, filling-none, filling-turn, filling-end}
-use Rattle.transform.specs.Steps.{butterfly}
+use Rattle.transform.specs.Steps.{addable, butterfly}
 use Rattle.transform.proofs.Bits.{bits-back}
 use Rattle.transform.proofs.Halves.{butterfly-second}
 use Rattle.transform.proofs.differences.Statement.{statement}
@@ -54,7 +54,7 @@ less-requires c κs =
       (
         omega (arith, c .loop-test .taken, pre .inside),
         record {
-          sfits = mag-sub (y j) (y i) (2 ^ 30) (pre .small j (omega (arith, c .loop-test .taken)))
+          sfits = mag-sub (y j) (y i) addable (pre .small j (omega (arith, c .loop-test .taken)))
               (pre .small i (c .loop-test .taken));
         },
       ),

@@ -1,7 +1,7 @@
 -- `transform::sums` meets its contract: place after place of the first half of a block it writes what the stage writes.
 -- Invariant: a loop from p to the middle, which writes, stands at i. Measure: the places left.
 -- Assumes nothing.
-use Prim.Native.Nat.{_+_, _-_, _<_, _^_}
+use Prim.Native.Nat.{_+_, _-_, _<_}
 use native.Mathlib.Omega.{arith}
 use mathlib.Core.Path.{sym, _∙_}
 use lib.ListN.{length}
@@ -9,7 +9,7 @@ use denote.Ref.{now}
 use Rattle.range.specs.Signed.{entry}
 use Rattle.range.proofs.SumsSigned.{mag-add}
 use Rattle.range.proofs.Fills.{Filling, filling-none, filling-turn, filling-end}
-use Rattle.transform.specs.Steps.{butterfly}
+use Rattle.transform.specs.Steps.{addable, butterfly}
 use Rattle.transform.proofs.Bits.{bits-back}
 use Rattle.transform.proofs.Halves.{butterfly-first}
 use Rattle.transform.proofs.sums.Statement.{statement}
@@ -52,7 +52,7 @@ sum-requires c κs =
       (
         omega (arith, partner c, pre .inside),
         record {
-          sfits = mag-add (y i) (y j) (2 ^ 30) (pre .small i (omega (arith, partner c))) (pre .small j (partner c));
+          sfits = mag-add (y i) (y j) addable (pre .small i (omega (arith, partner c))) (pre .small j (partner c));
         },
       ),
     )
