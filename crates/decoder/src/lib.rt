@@ -1,8 +1,8 @@
 // Soft and hard decoding for two and four phases: document 01 "What the receiver hears".
 // Each call turns what it received into a table of gains, natural numbers that are greater where a symbol fits better
 // (totals, specs/Gains.antt), and has the engine find the label of greatest total. Nothing is negated, and a soft value
-// is widened before anything is added to it. Equals go to the earliest label. The answers
-// and what the contracts cite of them stand in the crate answers.
+// is widened before anything is added to it. Equals go to the earliest label. The answers, and what the contracts cite
+// of them, stand in the crate answers.
 use answers::Closest;
 use answers::Heard;
 use answers::Loudest;

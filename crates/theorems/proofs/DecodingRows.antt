@@ -6,15 +6,14 @@ use Prim.Native.Nat.{ℕ}
 use native.Mathlib.Decide.{ℕ-discrete}
 use mathlib.Core.Path.{_≡_, refl, sym, subst}
 use mathlib.Core.Bool.{Bool, true, false}
-use mathlib.Core.List.{List, [], _∷_}
+use mathlib.Core.List.{List}
 use mathlib.Core.Option.{Option, none, some}
-use mathlib.Core.Logic.{_≢_, _↔_}
+use mathlib.Core.Logic.{_↔_}
 use lib.IntN.{ℤ}
 use lib.ListN.{length}
 use Rattle.rules.specs.Shape.{inShape, carriers}
-use Rattle.rules.specs.Symbols.{Symbols}
 use Rattle.rules.specs.Soft.{softLength}
-use Rattle.rules.specs.Outcome.{Outcome, gives, refuses, allowed, OutcomeOf}
+use Rattle.rules.specs.Outcome.{Outcome, gives, refuses, OutcomeOf}
 use Rattle.rules.specs.Table.{badSymbol}
 use Rattle.rules.specs.Refusal.{softRefusal, hardRefusal}
 use Rattle.rules.specs.Decoding.{SoftAnswer, HardAnswer, Loud, Near, SoftOutcome, HardOutcome}
@@ -22,7 +21,7 @@ use Rattle.rules.proofs.SymbolLaws.{symbols-of-none, symbols-none}
 use Rattle.rules.proofs.DecodingLaws.{softOutcome-unique, hardOutcome-unique}
 use Rattle.decoder.proofs.Outcomes.{soft-shape, soft-octary, soft-length, soft-allowed}
 use Rattle.decoder.proofs.Outcomes.{hard-shape, hard-octary, hard-length, hard-symbol, hard-allowed}
-use Rattle.theorems.specs.Rows.{FirstTooGreat, SoftRow, soft-1, soft-6, soft-2, soft-gives}
+use Rattle.theorems.specs.Rows.{SoftRow, soft-1, soft-6, soft-2, soft-gives}
 use Rattle.theorems.specs.Rows.{HardRow, hard-1, hard-6, hard-2, hard-3, hard-gives}
 use Rattle.theorems.proofs.Rows.{exactly, firstTooGreat-of, firstTooGreat-is}
 
@@ -39,22 +38,18 @@ module _ {A : Type 0} (Row : Outcome A → Type 0) (Right : A → Type 0) (r : O
 
 module _ (h m : ℕ) (ys : List ℤ) where
   -- the ways that the tests of soft decoding go
-  soft-cases : (P : Outcome (Unit {0}) → Type 0) → (inShape h m ≡ false → P (refuses 1 [])) →
-      (inShape h m ≡ true → h ≡ 3 → P (refuses 6 [])) →
-      (inShape h m ≡ true → h ≢ 3 → length ys ≢ softLength h m → P (refuses 2 [])) →
-      (inShape h m ≡ true → h ≢ 3 → length ys ≡ softLength h m → P allowed) → P (softRefusal h m ys)
-  soft-cases P one six two free = at (inShape h m) refl (ℕ-discrete h 3) (ℕ-discrete (length ys) (softLength h m))
+  soft-rows : RowsOf (SoftRow h m ys) (Loud h m ys) (softRefusal h m ys)
+  soft-rows = at (inShape h m) refl (ℕ-discrete h 3) (ℕ-discrete (length ys) (softLength h m))
     where
-      at : (b : Bool) → inShape h m ≡ b → Dec (h ≡ 3) → Dec (length ys ≡ softLength h m) → P (softRefusal h m ys)
-      at false s _ _ = subst P (sym (soft-shape h m ys s)) (one s)
-      at true s (yes e) _ = subst P (sym (soft-octary h m ys s e)) (six s e)
-      at true s (no e) (no l) = subst P (sym (soft-length h m ys s e l)) (two s e l)
-      at true s (no e) (yes l) = subst P (sym (soft-allowed h m ys s e l)) (free s e l)
+      at : (b : Bool) → inShape h m ≡ b → Dec (h ≡ 3) → Dec (length ys ≡ softLength h m) →
+          RowsOf (SoftRow h m ys) (Loud h m ys) (softRefusal h m ys)
+      at false s _ _ = rw (soft-shape h m ys s) (soft-1 s)
+      at true s (yes e) _ = rw (soft-octary h m ys s e) (soft-6 s e)
+      at true s (no e) (no l) = rw (soft-length h m ys s e l) (soft-2 s e l)
+      at true s (no e) (yes l) = rw (soft-allowed h m ys s e l) (λ a. soft-gives a s e l)
 
   soft-row : (o : Outcome SoftAnswer) → SoftOutcome h m ys o → SoftRow h m ys o
-  soft-row =
-      row-of-outcome (SoftRow h m ys) (Loud h m ys) (softRefusal h m ys)
-      (soft-cases (RowsOf (SoftRow h m ys) (Loud h m ys)) soft-1 soft-6 soft-2 (λ s t l a. soft-gives a s t l))
+  soft-row = row-of-outcome (SoftRow h m ys) (Loud h m ys) (softRefusal h m ys) soft-rows
 
   soft-of-row : {o : Outcome SoftAnswer} → SoftRow h m ys o → SoftOutcome h m ys o
   soft-of-row (soft-1 s) = soft-shape h m ys s
@@ -69,28 +64,21 @@ module _ (h m : ℕ) (ys : List ℤ) where
       (λ o r. softOutcome-unique h m ys o told (soft-of-row r) p)
 
 module _ (h m : ℕ) (w : List ℕ) where
-  hard-cases : (P : Outcome (Unit {0}) → Type 0) → (inShape h m ≡ false → P (refuses 1 [])) →
-      (inShape h m ≡ true → h ≡ 3 → P (refuses 6 [])) →
-      (inShape h m ≡ true → h ≢ 3 → length w ≢ carriers m → P (refuses 2 [])) →
-      ((i : ℕ) → inShape h m ≡ true → h ≢ 3 → length w ≡ carriers m → FirstTooGreat h w i → P (refuses 3 (i ∷ []))) →
-      (h ≢ 3 → Symbols h m w → P allowed) → P (hardRefusal h m w)
-  hard-cases P one six two three free =
-      at (inShape h m) refl (ℕ-discrete h 3) (ℕ-discrete (length w) (carriers m)) (badSymbol h w) refl
+  hard-rows : RowsOf (HardRow h m w) (Near h m w) (hardRefusal h m w)
+  hard-rows = at (inShape h m) refl (ℕ-discrete h 3) (ℕ-discrete (length w) (carriers m)) (badSymbol h w) refl
     where
       at : (b : Bool) → inShape h m ≡ b → Dec (h ≡ 3) → Dec (length w ≡ carriers m) → (f : Option ℕ) →
-          badSymbol h w ≡ f → P (hardRefusal h m w)
-      at false s _ _ f e = subst P (sym (hard-shape h m w s)) (one s)
-      at true s (yes t) _ f e = subst P (sym (hard-octary h m w s t)) (six s t)
-      at true s (no t) (no l) f e = subst P (sym (hard-length h m w s t l)) (two s t l)
+          badSymbol h w ≡ f → RowsOf (HardRow h m w) (Near h m w) (hardRefusal h m w)
+      at false s _ _ f e = rw (hard-shape h m w s) (hard-1 s)
+      at true s (yes t) _ f e = rw (hard-octary h m w s t) (hard-6 s t)
+      at true s (no t) (no l) f e = rw (hard-length h m w s t l) (hard-2 s t l)
       at true s (no t) (yes l) (some i) e =
-          subst P (sym (hard-symbol h m w s t l i (sym e))) (three i s t l (firstTooGreat-of h w i e))
+          rw (hard-symbol h m w s t l i (sym e)) (hard-3 i s t l (firstTooGreat-of h w i e))
       at true s (no t) (yes l) none e =
-          subst P (sym (hard-allowed h m w s t l (sym e))) (free t (symbols-of-none h m w s l (sym e)))
+          rw (hard-allowed h m w s t l (sym e)) (λ a. hard-gives a t (symbols-of-none h m w s l (sym e)))
 
   hard-row : (o : Outcome HardAnswer) → HardOutcome h m w o → HardRow h m w o
-  hard-row =
-      row-of-outcome (HardRow h m w) (Near h m w) (hardRefusal h m w)
-      (hard-cases (RowsOf (HardRow h m w) (Near h m w)) hard-1 hard-6 hard-2 hard-3 (λ t s a. hard-gives a t s))
+  hard-row = row-of-outcome (HardRow h m w) (Near h m w) (hardRefusal h m w) hard-rows
 
   hard-of-row : {o : Outcome HardAnswer} → HardRow h m w o → HardOutcome h m w o
   hard-of-row (hard-1 s) = hard-shape h m w s
