@@ -2,10 +2,10 @@
 -- Defines:  AtMost u v, AtLeast u v          of whole numbers, u is at most v; of natural numbers, u is at least v
 --           Best n Stands value l v          among the labels below n, every value stands to v as Stands says, and l is
 --                                            the earliest label that has v
---           Tied n value l v tied            tied says whether another label below n than l has v too
+--           Tied n value l v tied            tied says whether a label below n other than l has v too
 --           Greatest h m ys l v              v is the greatest correlation: over every label of the shape, at most v
 --           Nearest h m w l d                d is the least distance: over every label of the shape, at least d
--- Laws: proofs/BestLaws.antt (only one label and value satisfy Best, only one tied Tied).
+-- Laws: proofs/BestLaws.antt (only one label with its value is best, and only one tie is told).
 -- Assumes nothing: these are definitions.
 use Prim.Native.Nat.{ℕ, _≤_, _<_}
 use mathlib.Core.Path.{_≡_}

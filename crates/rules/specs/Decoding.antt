@@ -1,10 +1,11 @@
 -- What soft and hard decoding answer: 01 "What the receiver hears", "When the receiver says no".
 -- Defines:  Answer X                  what is answered: the message number, its value, tied
 --           SoftAnswer, HardAnswer    with a correlation as value, with a distance
---           BestAnswer h m Stands value a    a is right of these values of the labels: its message is one, and that
---                                     message's label is the best, with a's value, and tied as a says
---           Loud h m ys a             a is right of soft values ys: the best has the greatest correlation
---           Near h m w a              a is right of symbols w: the best has the least distance
+--           BestAnswer h m Stands value a    a is right for these values of the labels: its message is one of the
+--                                     shape's, and that message's label is the best, has a's value, and is tied as a
+--                                     says
+--           Loud h m ys a             a is right for soft values ys: the best is the greatest correlation
+--           Near h m w a              a is right for symbols w: the best is the least distance
 --           SoftOutcome h m ys o      o is what soft decoding of ys answers
 --           HardOutcome h m w o       o is what hard decoding of w answers
 -- That the message is one follows from its label for the plain bits of today; it is said so that other bits leave it

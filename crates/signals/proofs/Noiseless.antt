@@ -103,6 +103,5 @@ loud-of-clean h m a w g one two some inside agree apart =
     let below : (i : ℕ) → i < carriers m → symbolAt w i < phases h =
     λ i b. rw (agree i b) (wordAt-lt h m l i) in
     let whole : c l ≡ pos (carriers m * a) = correlation-of-agree h m a w one two below l agree in
-    subst (λ v. Loud h m (clean h m a w) (record { message = g; value = v; tied = false })) whole
-    (bestAnswer-alone h m AtMost c g inside (≤ℤ-refl (c l) .le)
+    rw whole at (bestAnswer-alone h m AtMost c g inside (≤ℤ-refl (c l) .le)
     (λ k b ne. rw whole (correlation-of-apart h m a w one two below k some (apart k b ne))))

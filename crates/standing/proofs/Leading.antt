@@ -111,11 +111,13 @@ leading-first f = at (decLe (f 0) 0)
         let a : 0 < f 0 = omega arith in
         subst (Leading 1 f) (sym (better-best nobody (f 0) 0 a a)) (first-above f)
 
-lead-leading : (f : ℕ → ℕ) (n : ℕ) → Leading (suc n) f (lead f (suc n))
+lead-leading : (f : ℕ → ℕ) (n : ℕ) → 1 ≤ n → Leading n f (lead f n)
 unfolding lead leadFrom
-lead-leading f zero = leading-first f
-lead-leading f (suc n) =
-    rw (zero-add (suc n)) (leading-better (suc n) f (leadFrom 0 f (suc n) nobody) (lead-leading f n))
+lead-leading f zero one = absurd (not-suc-le-zero one)
+lead-leading f (suc zero) one = leading-first f
+lead-leading f (suc (suc n)) one =
+    rw (zero-add (suc n))
+    (leading-better (suc n) f (leadFrom 0 f (suc n) nobody) (lead-leading f (suc n) (omega arith)))
 
 module _ (n : ℕ) (f : ℕ → ℕ) (st : Standing) (p : Leading n f st) where
   -- where the second best is as good, another label has the best value
@@ -145,9 +147,7 @@ module _ (n : ℕ) (f : ℕ → ℕ) (st : Standing) (p : Leading n f st) where
   leading-is-tied two = (λ t. leading-another two (eqb-true (st .best) (st .second) t), leading-tied)
 
 pub lead-best : (f : ℕ → ℕ) (n : ℕ) → 1 ≤ n → Best n _≤_ f (lead f n .label) (lead f n .best)
-lead-best f zero one = absurd (not-suc-le-zero one)
-lead-best f (suc n) one = leading-is-best (suc n) f (lead f (suc n)) (lead-leading f n)
+lead-best f n one = leading-is-best n f (lead f n) (lead-leading f n one)
 
 pub lead-tied : (f : ℕ → ℕ) (n : ℕ) → 2 ≤ n → Tied n f (lead f n .label) (lead f n .best) (tiedOf (lead f n))
-lead-tied f zero two = absurd (not-suc-le-zero two)
-lead-tied f (suc n) two = leading-is-tied (suc n) f (lead f (suc n)) (lead-leading f n) two
+lead-tied f n two = leading-is-tied n f (lead f n) (lead-leading f n (omega arith)) two

@@ -5,7 +5,7 @@
 -- far words stand apart (crate distances).  Assumes nothing.
 use Prim.Native.Nat.{ℕ, _*_, _≤_, _<_}
 use native.Mathlib.Omega.{arith}
-use mathlib.Core.Path.{_≡_, refl, sym, _∙_, subst}
+use mathlib.Core.Path.{_≡_, refl, sym, _∙_}
 use mathlib.Core.Bool.{true, false}
 use mathlib.Core.List.{List, [], _∷_, flatMap}
 use mathlib.Core.Logic.{_≢_}
@@ -80,8 +80,7 @@ module _ (h m g : ℕ) (shape : inShape h m ≡ true) (inside : g < messages h m
 
   sent-near : Near h m sent (record { message = g; value = 0; tied = false })
   sent-near =
-      subst (λ (d : ℕ). Near h m sent (record { message = g; value = d; tied = false })) sent-same
-      (near-of-damage h m sent g inside (wordOf-lt h m g) (λ k b n. rw sent-same (sent-apart k b n)))
+      rw sent-same at (near-of-damage h m sent g inside (wordOf-lt h m g) (λ k b n. rw sent-same (sent-apart k b n)))
 
   sent-loud : (a : ℕ) → h ≤ 2 → 1 ≤ a →
       Loud h m (clean h m a sent) (record { message = g; value = pos (N * a); tied = false })
