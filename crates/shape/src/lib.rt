@@ -64,12 +64,7 @@ pub fn path_bits(m: u32) -> u32
 pub fn takes(h: u32, m: u32, message: MessageNumber) -> bool
     ensures { λ r. ⌜ r ≡ (inShape h m && not (badMessage h m (message .0))) ⌝ }
 {
-    if !in_shape(h, m) {
-        return false;
-    }
-    let g = message.0;
-    let limit = power(path_bits(m) + h * (m + 1));
-    g < limit
+    in_shape(h, m) && message.0 < power(path_bits(m) + h * (m + 1))
 }
 
 // The label number of a message number, and back. Today they are the same number.

@@ -4,7 +4,7 @@ use native.Mathlib.Omega.{arith}
 use mathlib.Core.Path.{_≡_, sym, _∙_}
 use mathlib.Core.Bool.{true}
 use borrow.Author.Needs.{needs}
-use borrow.Author.Tests.{not-true, not-false}
+use Rattle.range.proofs.Tests.{and-of-false}
 use Rattle.rules.specs.Shape.{inShape}
 use Rattle.rules.proofs.Range.{InRange, inShape-range, pathBits-le, coefficientBits-le}
 use Rattle.shape.proofs.Powers.{takes-test}
@@ -13,9 +13,6 @@ use Rattle.shape.proofs.takes.Tie as tie
 
 in-shape-requires : tie.Need-in-shape-requires
 in-shape-requires c κs = search needs
-
-returns : tie.Need-returns
-returns c = rw (sym (c .before .in-shape .ensures) ∙ not-true _ (c .if1 .taken))
 
 path-bits-requires : tie.Need-path-bits-requires
 path-bits-requires c κs = search needs
@@ -26,7 +23,7 @@ start c = c .before .before .before
 
 -- past the test the shape is in range
 shaped : (c : tie.After-path-bits) → inShape (start c .args .h) (start c .args .m) ≡ true
-shaped c = sym (c .before .before .in-shape .ensures) ∙ not-false _ (c .before .if1 .left)
+shaped c = sym (c .before .before .in-shape .ensures) ∙ c .before .if1 .taken
 
 ranged : (c : tie.After-path-bits) → InRange (start c .args .h) (start c .args .m)
 ranged c = inShape-range _ _ (shaped c)
@@ -44,13 +41,19 @@ add-power-2 c =
 power-requires : tie.Need-power-requires
 power-requires c κs = search needs
 
+returns : tie.Need-returns
+returns c =
+    let powered = c .before in
+    let args = start (powered .before) .args in
+    rw (powered .power .ensures, powered .before .path-bits .ensures)
+    (takes-test (args .h) (args .m) (args .message .0) (shaped (powered .before)))
+
 returns-2 : tie.Need-returns-2
 returns-2 c =
-    let args = start (c .before) .args in
-    rw (c .power .ensures, c .before .path-bits .ensures)
-    (takes-test (args .h) (args .m) (args .message .0) (shaped (c .before)))
+    let told = c .before .in-shape .ensures in
+    told ∙ and-of-false _ _ (sym told ∙ c .if1 .left)
 
 pub takes-spec : {M : Type 1} → statement M
 takes-spec =
     tie.close
-    (tie.spec in-shape-requires returns path-bits-requires add-power mul-power add-power-2 power-requires returns-2)
+    (tie.spec in-shape-requires path-bits-requires add-power mul-power add-power-2 power-requires returns returns-2)
