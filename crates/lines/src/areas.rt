@@ -23,13 +23,9 @@ enum Call {
 
 // Whether a line is one of these; it is then answered.
 pub(super) fn answered(line: &[u8]) -> bool {
-    if called(line, b"transform", Call::Transform) {
-        return true;
-    }
-    if called(line, b"run", Call::Run) {
-        return true;
-    }
-    called(line, b"look", Call::Look)
+    called(line, b"transform", Call::Transform)
+        || called(line, b"run", Call::Run)
+        || called(line, b"look", Call::Look)
 }
 
 fn called(line: &[u8], name: &[u8], call: Call) -> bool {

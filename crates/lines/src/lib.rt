@@ -61,11 +61,5 @@ fn answered(line: &[u8]) -> bool {
         say(line);
         return true;
     }
-    if words::answered(line) {
-        return true;
-    }
-    if values::answered(line) {
-        return true;
-    }
-    areas::answered(line)
+    words::answered(line) || values::answered(line) || areas::answered(line)
 }

@@ -55,10 +55,7 @@ fn found(value: u64, end: usize) -> Piece {
 
 // Whether a piece is there, and nothing behind it.
 pub(super) fn ends(line: &[u8], last: Piece) -> bool {
-    if !last.there {
-        return false;
-    }
-    last.end == line.len()
+    last.there && last.end == line.len()
 }
 
 // A name, at the front of the line.

@@ -28,19 +28,11 @@ enum Call {
 
 // Whether a line is one of these; it is then answered.
 pub(super) fn answered(line: &[u8]) -> bool {
-    if called(line, b"encode", Call::Encode) {
-        return true;
-    }
-    if called(line, b"partner", Call::Partner) {
-        return true;
-    }
-    if called(line, b"pair", Call::Pair) {
-        return true;
-    }
-    if called(line, b"read", Call::Read) {
-        return true;
-    }
-    called(line, b"hard", Call::Hard)
+    called(line, b"encode", Call::Encode)
+        || called(line, b"partner", Call::Partner)
+        || called(line, b"pair", Call::Pair)
+        || called(line, b"read", Call::Read)
+        || called(line, b"hard", Call::Hard)
 }
 
 fn called(line: &[u8], name: &[u8], call: Call) -> bool {
