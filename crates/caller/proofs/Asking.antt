@@ -37,7 +37,7 @@ use denote.Triple.Statement.{Contract}
 use denote.Triple.Clauses.{ensured, lasts}
 use Rattle.range.specs.Signed.{entry}
 use Rattle.rules.specs.Areas.{inFirst}
-use Rattle.transform.proofs.Parts.{length-firstAfter, length-secondAfter}
+use Rattle.transform.proofs.AreasAfter.{length-firstAfter, length-secondAfter}
 use Rattle.transform.proofs.Again.{under}
 use Rattle.transform.proofs.Calling.{vals, passed}
 use Rattle.caller.proofs.Sharing.{Had, Shr, KeptS, shares, shared-back}

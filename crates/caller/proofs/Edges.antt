@@ -35,7 +35,7 @@ use denote.Exit.{yes}
 use denote.Signature.{plain}
 use denote.Triple.Entry.{onEntry}
 use denote.Triple.Walked.{says, Stays, stay-none, stay-slice, walkOf, ends-at}
-use Rattle.transform.proofs.Parts.{length-firstAfter, length-secondAfter}
+use Rattle.transform.proofs.AreasAfter.{length-firstAfter, length-secondAfter}
 use Rattle.transform.proofs.Again.{Own}
 use Rattle.transform.proofs.Calling.{vals}
 use Rattle.caller.specs.declared.Ends.{Ends}

@@ -40,7 +40,7 @@ use denote.Triple.Spec.{tripleOf}
 use denote.Triple.Statement.{Contract}
 use denote.Triple.Clauses.{ensured, lasts}
 use Rattle.rules.specs.Areas.{firstAfter, secondAfter, partOf}
-use Rattle.transform.specs.Told.{Handed, AtLast}
+use Rattle.transform.specs.Transformed.{Handed, AtLast}
 use Rattle.transform.proofs.Again.{Own, under, Kept-of, lends, backs}
 use Rattle.transform.proofs.Calling.{vals, passed}
 use Rattle.transform.proofs.transform as transform

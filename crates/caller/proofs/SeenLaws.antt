@@ -17,8 +17,8 @@ use Rattle.rules.specs.Spectrum.{spectrumAt, stages}
 use Rattle.rules.specs.Outcome.{refuses, allowed}
 use Rattle.rules.specs.Refusal.{transformRefusal}
 use Rattle.rules.specs.Areas.{inFirst, firstAfter, secondAfter, partOf}
-use Rattle.transform.specs.Told.{Ran}
-use Rattle.transform.proofs.Parts.{ran-refused}
+use Rattle.transform.specs.Transformed.{Ran}
+use Rattle.transform.proofs.AreasAfter.{ran-refused}
 use Rattle.caller.specs.declared.Ends.{Ends}
 use Rattle.caller.specs.Seen.{Seen}
 

@@ -1,7 +1,7 @@
 -- The forms of one label at places that differ in one digit or in two: rules' Word. In order: the forms of the four
 -- places of two flips balance, up to half a turn where the two digits are linked; a flip from 0 to 1 adds the
 -- coefficient of its digit to the linear part, and so to the form.
--- Not here: four places in general (words' FourForms), two labels (Parts).  Assumes nothing.
+-- Not here: four places in general (words' FourForms), two labels (PartsApart).  Assumes nothing.
 use Prim.Native.Nat.{ℕ, zero, suc, _+_, _*_, _%_, _≤_}
 use native.Mathlib.Omega.{arith}
 use mathlib.Core.Path.{_≡_, sym}
@@ -13,7 +13,7 @@ use Rattle.rules.specs.Path.{pathAt}
 use Rattle.rules.specs.Label.{labelPath, coefficient}
 use Rattle.rules.specs.Word.{links, formAt}
 use Rattle.places.proofs.Flips.{flip, digit-flip-at, digit-flip-off}
-use Rattle.paths.proofs.Pairs.{onPair}
+use Rattle.paths.proofs.LinkedPairs.{onPair}
 use Rattle.words.proofs.Readings.{Good, linked, linear}
 use Rattle.words.proofs.Around.{around-flip}
 use Rattle.words.proofs.FourForms.{formAt-flip-balance}

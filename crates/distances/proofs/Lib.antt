@@ -2,6 +2,6 @@
 pub mod Gaps
 pub mod Averages
 pub mod Flipped
-pub mod Parts
+pub mod PartsApart
 pub mod Apart
 pub mod Inject

@@ -9,7 +9,7 @@ use lib.ListN.{getD}
 use Rattle.range.specs.Below.{sumBelow}
 use Rattle.range.proofs.Sums.{sumBelow-le}
 use Rattle.rules.specs.Shape.{greatestM, carriers, greatestH, phases}
-use Rattle.encoder.specs.Steps.{cell, linearOf, linksOf, Cells, Small, Walk}
+use Rattle.encoder.specs.Arrays.{cell, linearOf, linksOf, Cells, Small, Walk}
 
 -- the greatest term, sum of terms and sum of links of a shape in range
 abbrev pub mostTerm : ℕ

@@ -23,8 +23,8 @@ use Rattle.words.proofs.Labels.{coefficient-lt, constant-lt}
 use Rattle.words.proofs.Forms.{formAt-rows, partnerAt-form}
 use Rattle.words.proofs.Used.{labelPath-isPath}
 use Rattle.words.proofs.Partners.{headOf-at}
-use Rattle.steps.specs.Steps.{pathRow}
-use Rattle.encoder.specs.Steps.{generatorRows, cell, linearOf, linksOf, symbolOf, liftedAt, Cells, Small, Walk}
+use Rattle.steps.specs.PathSteps.{pathRow}
+use Rattle.encoder.specs.Arrays.{generatorRows, cell, linearOf, linksOf, symbolOf, liftedAt, Cells, Small, Walk}
 use Rattle.encoder.proofs.Matrix.{generatorAt-digit, generatorRows-at, generatorRows-cells}
 
 -- the links of a path as a sum over its steps

@@ -4,3 +4,4 @@ pub mod Matrix
 pub mod Divide
 pub mod Formula
 pub mod SentLaws
+pub mod Unique

@@ -12,7 +12,7 @@ use Rattle.range.proofs.Lists.{listBelow-at, listBelow-cong}
 use Rattle.rules.specs.Shape.{greatestM, carriers}
 use Rattle.rules.specs.Place.{digit, generatorAt, generator}
 use Rattle.places.proofs.Digits.{digit-lt}
-use Rattle.encoder.specs.Steps.{generatorRows, cell, Cells}
+use Rattle.encoder.specs.Arrays.{generatorRows, cell, Cells}
 
 pub generatorAt-digit : (m r i : ℕ) → 1 ≤ r → generatorAt m r i ≡ digit m i r
 unfolding generatorAt

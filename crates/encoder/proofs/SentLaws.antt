@@ -1,17 +1,15 @@
 -- Laws of the promise of encode and partner.
--- In order: the promise of a refusal and of a word written; a word said in another way; only one outcome satisfies it;
--- the slice where nothing is refused, and where something is.
--- Assumes nothing.
+-- In order: the promise of a refusal and of a word written; a word said in another way; the slice where nothing is
+-- refused, and where something is.
+-- Not here: that only one outcome satisfies it (Unique).  Assumes nothing.
 use Prim.Native.Nat.{ℕ}
 use mathlib.Core.Path.{_≡_, refl, sym, _∙_, ap, subst}
 use mathlib.Core.List.{List}
 use lib.ListN.{length}
 use Rattle.rules.specs.Outcome.{Outcome, refuses, allowed, leaves}
 use Rattle.rules.specs.Refusal.{sendRefusal}
-use Rattle.rules.proofs.OutcomeLaws.{gives-not-refuses}
 use Rattle.kinds.specs.declared.Refusal.{Refusal}
 use Rattle.kinds.specs.Refusals.{refusalTold}
-use Rattle.kinds.proofs.RefusalLaws.{refusalTold-inj}
 use Rattle.encoder.specs.declared.Written.{Written}
 use Rattle.encoder.specs.declared.Written.the-variants.{Done, Refused}
 use Rattle.encoder.specs.Sent.{writtenTold, Sent}
@@ -33,19 +31,6 @@ pub sent-cong : {h m g : ℕ} {word word′ before : List ℕ} {r : Written} {af
     Sent h m g word before r after → Sent h m g word′ before r after
 sent-cong {h} {m} {g} {before = before} {r = r} {after = after} e s =
     subst (λ (w : List ℕ). Sent h m g w before r after) e s
-
--- an answer is read back from what it tells
-pub writtenTold-inj : (r s : Written) → writtenTold r ≡ writtenTold s → r ≡ s
-writtenTold-inj Done Done e = refl
-writtenTold-inj Done (Refused s) e = absurd (gives-not-refuses e)
-writtenTold-inj (Refused r) Done e = absurd (gives-not-refuses (sym e))
-writtenTold-inj (Refused r) (Refused s) e = ap Refused (refusalTold-inj r s e)
-
--- only one outcome, answer and slice, satisfies the promise
-pub sent-unique : (h m g : ℕ) (word before : List ℕ) (r s : Written) (after after′ : List ℕ) →
-    Sent h m g word before r after → Sent h m g word before s after′ → (r ≡ s) × (after ≡ after′)
-sent-unique h m g word before r s after after′ p q =
-    (writtenTold-inj r s (p .told ∙ sym (q .told)), p .slice ∙ sym (q .slice))
 
 -- where nothing is refused the slice holds the word
 pub sent-word : {h m g : ℕ} {word before : List ℕ} {r : Written} {after : List ℕ} → Sent h m g word before r after →

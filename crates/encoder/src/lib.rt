@@ -1,6 +1,6 @@
 // Encode and partner: document 01 "What a logger may send" and "The partner and the pair check", 001 Corollary 4.
 // Both refuse 1, 2 and 4, in that order, and a refusal writes nothing. The rows of the generator are combined place by
-// place; the partner adds 2^(h-1) of row p(1). Contracts cite specs/Sent.antt, and for the steps specs/Steps.antt.
+// place; the partner adds 2^(h-1) of row p(1). Contracts cite specs/Sent.antt, and for the steps specs/Arrays.antt.
 use kinds::Judged;
 use kinds::MessageNumber;
 use kinds::PathNumber;
@@ -17,8 +17,8 @@ ghost use Rattle.rules.specs.Shape.{carriers, inShape, halfTurn, greatestM};
 ghost use Rattle.rules.specs.Place.{digit};
 ghost use Rattle.rules.specs.Label.{labels, labelOf};
 ghost use Rattle.rules.specs.Word.{wordOf, partnerOf};
-ghost use Rattle.encoder.specs.Steps.{generatorRows, cell, linearOf, linksOf, symbolOf, liftedAt, Split, Cells};
-ghost use Rattle.encoder.specs.Steps.{Small, Walk, Bounded};
+ghost use Rattle.encoder.specs.Arrays.{generatorRows, cell, linearOf, linksOf, symbolOf, liftedAt, Split, Cells};
+ghost use Rattle.encoder.specs.Arrays.{Small, Walk, Bounded};
 ghost use Rattle.encoder.specs.Sent.{Sent};
 
 // The answer of encode and partner.

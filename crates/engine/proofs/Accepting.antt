@@ -20,7 +20,7 @@ use Rattle.rules.specs.Label.{labels}
 use Rattle.rules.proofs.Range.{inShape-range, carriers-most}
 use Rattle.totals.specs.Totals.{totalOf}
 use Rattle.standing.specs.Lead.{nobody, lead}
-use Rattle.engine.specs.Tables.{mostTotal}
+use Rattle.engine.specs.SearchTables.{mostTotal}
 use Rattle.engine.specs.Search.{greatestDecoded, mostGain, accepts, searched}
 
 -- the gains are small

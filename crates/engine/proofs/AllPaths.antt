@@ -1,4 +1,4 @@
--- The labels of all paths: specs/Tables.antt, AllPaths. In order: all labels are those of the paths in use; the areas
+-- The labels of all paths: specs/SearchTables.antt, AllPaths. In order: all labels are those of the paths in use; the areas
 -- have room for each shape; one path of all may be searched.
 -- Not here: the labels of one path (PathLaws).  Assumes nothing.
 use Prim.Native.Nat.{ℕ, _+_, _*_, _^_, _≤_, _<_}
@@ -14,7 +14,7 @@ use Rattle.rules.specs.Label.{labels}
 use Rattle.rules.proofs.Range.{InRange, inShape-range, phases-pow}
 use Rattle.engine.specs.declared.Sizes.{Sizes}
 use Rattle.engine.specs.Search.{greatestDecoded}
-use Rattle.engine.specs.Tables.{area, Sized, AllPaths, OnePath}
+use Rattle.engine.specs.SearchTables.{area, Sized, AllPaths, OnePath}
 
 -- all labels are those of the paths in use
 pub labels-paths : (h m : ℕ) → pathsInUse m * phases h ^ (m + 1) ≡ labels h m

@@ -1,4 +1,4 @@
--- The stages one after the other: specs/Tables.antt, Climbing. In order: powers; the numbers of the next table stay
+-- The stages one after the other: specs/SearchTables.antt, Climbing. In order: powers; the numbers of the next table stay
 -- small; what the stages answer; the next runs are no longer than the area; no stage is left but the last, or one at
 -- least; what the last stage may be given, and what it answers; what one stage may be given, what the stages after it
 -- may be given, and what they answer.
@@ -17,7 +17,7 @@ use Rattle.totals.proofs.Runs.{length-climbed}
 use Rattle.standing.specs.declared.Standing.{Standing}
 use Rattle.standing.specs.Lead.{leadFrom}
 use Rattle.engine.specs.Search.{mostLabels}
-use Rattle.engine.specs.Tables.{mostTotal, Runs, tableIn, Climbing}
+use Rattle.engine.specs.SearchTables.{mostTotal, Runs, tableIn, Climbing}
 
 pow-one : (q : ℕ) → q ^ 1 ≡ q
 pow-one q = pow-succ' q 0 ∙ rw (pow-zero q) (mul-one q)

@@ -1,4 +1,4 @@
--- The labels of one path: specs/Tables.antt, OnePath. In order: its first label is one, and so are the others; powers
+-- The labels of one path: specs/SearchTables.antt, OnePath. In order: its first label is one, and so are the others; powers
 -- to m, as the stages count them; the areas have room for the first table; the path's own word can be put into the
 -- gains; the first table, of which the stages may begin; what they answer, in terms of totals.
 -- Not here: the labels of all paths (AllPaths), the stages (Climbing).  Assumes nothing.
@@ -28,7 +28,7 @@ use Rattle.standing.specs.Lead.{leadFrom}
 use Rattle.standing.proofs.Lead.{leadFrom-cong}
 use Rattle.engine.specs.declared.Sizes.{Sizes}
 use Rattle.engine.specs.Search.{mostLabels}
-use Rattle.engine.specs.Tables.{mostTotal, Runs, WordFits, tableIn, Climbing, OnePath}
+use Rattle.engine.specs.SearchTables.{mostTotal, Runs, WordFits, tableIn, Climbing, OnePath}
 use Rattle.engine.proofs.Climbing.{wanted}
 use Rattle.engine.proofs.AllPaths.{labels-paths}
 

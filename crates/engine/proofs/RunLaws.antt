@@ -1,4 +1,4 @@
--- The runs of a table lie inside it, and no sum of two numbers is too great: specs/Tables.antt. In order: the runs
+-- The runs of a table lie inside it, and no sum of two numbers is too great: specs/SearchTables.antt. In order: the runs
 -- of a table that is read, how many there are, and sums of their numbers; the sums of the last stage; a sum as a
 -- number of the next table, and the run one symbol further on; a gain as a number of the first table; a table at the
 -- front of an area, read and written.
@@ -13,7 +13,7 @@ use lib.Seq.{take-at}
 use Rattle.range.proofs.Products.{times-within, times-least}
 use Rattle.totals.specs.Climb.{gainsWithAt, pairAt, climbedAt}
 use Rattle.totals.proofs.Runs.{gainsWithAt-run, climbedAt-run}
-use Rattle.engine.specs.Tables.{mostTotal, Runs, tableIn}
+use Rattle.engine.specs.SearchTables.{mostTotal, Runs, tableIn}
 
 module _ {q half w : ℕ} {xs : List ℕ} (p : Runs q half w xs) where
   -- the two runs of number t

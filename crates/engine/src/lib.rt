@@ -2,7 +2,7 @@
 // negated. For each path the gains with the path's own word put in are the first table, and each stage takes in one
 // digit of the places with all values of its coefficient, until there is a number for each label, its total (totals,
 // specs/Climb.antt and Totals.antt). The labels are gone through in their order, path after path, and the best and the
-// second best are kept (standing). Contracts cite specs/Search.antt, and for the steps specs/Tables.antt.
+// second best are kept (standing). Contracts cite specs/Search.antt, and for the steps specs/SearchTables.antt.
 mod scan;
 mod stages;
 mod turning;
@@ -24,7 +24,7 @@ ghost use Rattle.totals.specs.Totals.{totalOf};
 ghost use Rattle.totals.specs.Climb.{gainsWith, climbed, climbs, byLabel};
 ghost use Rattle.standing.specs.Lead.{leadFrom, lead};
 ghost use Rattle.engine.specs.Search.{mostGain, mostLabels, accepts, searched};
-ghost use Rattle.engine.specs.Tables.{Sized, Runs, WordFits, Climbing, AllPaths, OnePath, tableIn};
+ghost use Rattle.engine.specs.SearchTables.{Sized, Runs, WordFits, Climbing, AllPaths, OnePath, tableIn};
 
 // The greatest h that the tables have room for, and the room: 2 q^m numbers.
 pub const GREATEST_DECODED: u32 = 2;

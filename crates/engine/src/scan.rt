@@ -13,7 +13,7 @@ ghost use lib.ListN.{length, getD};
 ghost use Rattle.totals.specs.Climb.{pairAt, climbed, byLabel};
 ghost use Rattle.standing.specs.Lead.{leadFrom};
 ghost use Rattle.engine.specs.Search.{mostLabels};
-ghost use Rattle.engine.specs.Tables.{Runs, mostTotal};
+ghost use Rattle.engine.specs.SearchTables.{Runs, mostTotal};
 
 // The standing after all labels of the table, counted from first on.
 pub(super) fn last(q: usize, w: usize, first: u64, table: &[u32], before: Standing) -> Standing

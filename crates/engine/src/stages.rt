@@ -6,7 +6,7 @@ ghost use mathlib.Core.Path.{_≡_};
 ghost use lib.ListN.{length, getD};
 ghost use Rattle.range.specs.Below.{Fills};
 ghost use Rattle.totals.specs.Climb.{climbed, climbedAt};
-ghost use Rattle.engine.specs.Tables.{Runs, mostTotal};
+ghost use Rattle.engine.specs.SearchTables.{Runs, mostTotal};
 
 // One stage. Short runs are written out above the loops, so that the compiler knows how long they are; the last call
 // serves any other.

@@ -6,7 +6,7 @@ ghost use mathlib.Core.Path.{_≡_};
 ghost use lib.ListN.{length};
 ghost use Rattle.range.specs.Below.{Fills};
 ghost use Rattle.totals.specs.Climb.{gainsWith, gainsWithAt};
-ghost use Rattle.engine.specs.Tables.{WordFits};
+ghost use Rattle.engine.specs.SearchTables.{WordFits};
 
 // A run for each symbol.
 pub(super) fn start(q: usize, word: &[u8], gains: &[u32], to: &mut [u32])

@@ -6,7 +6,7 @@ pub mod UpTo
 pub mod Members
 pub mod Sorted
 pub mod Increasing
-pub mod Pairs
+pub mod LinkedPairs
 pub mod Links
 pub mod Counts
 pub mod Reversed

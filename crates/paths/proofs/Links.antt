@@ -1,7 +1,7 @@
 -- THE LAW of links: a path is determined by its links, also where they are known only modulo 2.
 -- In order: a number with a neighbour on either side is linked to two; what is linked to one alone is an end;
 -- equal heads and equal links make equal lists; lists with equal links have the same ends; the law.
--- Not here: the links of one pair (Pairs), which lists are paths (Members).  Assumes nothing.
+-- Not here: the links of one pair (LinkedPairs), which lists are paths (Members).  Assumes nothing.
 use Prim.Native.Nat.{ℕ, _*_, _%_, _≤_, _<_}
 use native.Mathlib.Decide.{decLe, decLt}
 use native.Mathlib.Omega.{arith}
@@ -13,9 +13,9 @@ use Rattle.rules.specs.Path.{IsPath, headOf, lastOf, times}
 use Rattle.rules.specs.Word.{links}
 use Rattle.paths.proofs.Times.{Distinct, times-here, times-tail-le, mem-of-times, distinct-tail, distinct-head}
 use Rattle.paths.proofs.Members.{isPath-isOrder, isPath-within, isPath-unique}
-unfoldable pub use Rattle.paths.proofs.Pairs.{onPair}
-use Rattle.paths.proofs.Pairs.{onPair-left, onPair-right, links-swap, links-tail-le, links-absent, links-pair-le}
-use Rattle.paths.proofs.Pairs.{second-other, links-first, links-head}
+unfoldable pub use Rattle.paths.proofs.LinkedPairs.{onPair}
+use Rattle.paths.proofs.LinkedPairs.{onPair-left, onPair-right, links-swap, links-tail-le, links-absent, links-pair-le}
+use Rattle.paths.proofs.LinkedPairs.{second-other, links-first, links-head}
 
 -- in q, x is linked to no number but y
 abbrev OneLink : ℕ → ℕ → List ℕ → Type 0

@@ -6,7 +6,7 @@
 --           partOf m a b          the part handed back: the spectrum, or nothing where the transform is refused
 --           partLength m a b      how long it is
 --           partInFirst m a b     whether it stands at the front of the first area: for even m, and where refused
--- Laws: transform, proofs/Parts.antt; samples: proofs/AreaSamples.antt.  Assumes nothing: these are definitions.
+-- Laws: transform, proofs/AreasAfter.antt; samples: proofs/AreaSamples.antt.  Assumes nothing: these are definitions.
 use Prim.Native.Nat.{ℕ, _-_, _%_}
 use mathlib.Core.Bool.{Bool, true, cond}
 use mathlib.Core.List.{List, []}

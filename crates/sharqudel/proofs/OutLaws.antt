@@ -16,8 +16,8 @@ use Rattle.kinds.specs.declared.Refusal.{Refusal}
 use Rattle.kinds.specs.Refusals.{refusalNumber, refusalCarries, refusalTold}
 use Rattle.encoder.specs.declared.Written.{Written}
 use Rattle.encoder.specs.Sent.{writtenTold, Sent}
-use Rattle.transform.specs.Told.{Ran}
-use Rattle.transform.proofs.Parts.{ran-refused}
+use Rattle.transform.specs.Transformed.{Ran}
+use Rattle.transform.proofs.AreasAfter.{ran-refused}
 use Rattle.sharqudel.specs.Crossing.{kindOf, Tells, areaOf}
 use Rattle.sharqudel.specs.Out.{SentOut, CheckedOut, ReadOut, SoftOut, HardOut, JudgedOut, TransformedOut}
 use Rattle.sharqudel.proofs.CrossingLaws.{kindOf-cong, areaOf-is}

@@ -1,14 +1,14 @@
 -- The places of a stage counted by blocks, as a loop meets them: stage k works in blocks of 2 s places, s = 2^(m-k),
 -- and place b of a block, b < s, is paired with place b + s. In order: where place b of block a stands; a block that
 -- begins before the end of t blocks ends there at the latest; how many blocks a stage has.
--- Not here: pairs by the digit of a place (Pairs).  Assumes nothing.
+-- Not here: pairs by the digit of a place (StagePairs).  Assumes nothing.
 use Prim.Native.Nat.{ℕ, suc, _+_, _-_, _*_, _/_, _^_, _≤_, _<_}
 use native.Mathlib.Nat.{lt-of-mul-lt-mul-right, mul-le-mul-right, mul-assoc, suc-mul, pow-suc}
 use mathlib.Core.Path.{_≡_, _∙_}
 use lib.Arith.{digits-div}
 use Rattle.rules.specs.Shape.{carriers}
 use Rattle.places.proofs.Twins.{carriers-blocks}
-use Rattle.spectrum.proofs.Pairs.{double-mul}
+use Rattle.spectrum.proofs.StagePairs.{double-mul}
 
 pub block-div : (s a b i : ℕ) → b < s → i ≡ a * (2 * s) + b → i / s ≡ a + a
 block-div s a b i l q = rw (q, double-mul a s) (digits-div (a + a) l)

@@ -16,7 +16,7 @@ use Rattle.range.proofs.Tests.{and-left}
 use Rattle.range.proofs.SumsSigned.{mag-add, mag-sub}
 use Rattle.rules.specs.Shape.{greatestM, carriers}
 use Rattle.rules.specs.Spectrum.{widest, accepted, stage, stages}
-use Rattle.spectrum.proofs.Pairs.{stage-first, stage-second, pairs-all}
+use Rattle.spectrum.proofs.StagePairs.{stage-first, stage-second, pairs-all}
 
 pub accepted-mag : (z : ℤ) → accepted z ≡ true → mag z < widest
 accepted-mag (pos n) e = omega (arith, leb-true n (widest - 1) e)

@@ -1,7 +1,7 @@
 -- What each entry is after k stages: rules' Spectrum. In order: a spectrum of twice as many entries, from those of the
 -- entries at even and at odd places; a place counted in blocks twice as long; the two entries of a pair after one
 -- stage more; every entry after k stages; after all, the spectrum.
--- Not here: one stage by itself (Pairs).  Assumes nothing.
+-- Not here: one stage by itself (StagePairs).  Assumes nothing.
 use Prim.Native.Nat.{ℕ, zero, suc, _+_, _-_, _*_, _/_, _%_, _^_, _≤_, _<_}
 use native.Mathlib.Nat.{zero-add, add-zero, zero-mul, mul-one, suc-mul, mul-comm, sub-self, sub-zero, le-refl}
 use native.Mathlib.Nat.{div-one, mod-one, div-div-eq-div-mul, add-div-right, add-mod-right, mod-eq-of-lt}
@@ -17,7 +17,7 @@ use Rattle.range.proofs.SumsSigned.{sumℤ-negatedIf, sumℤ-even-odd}
 use Rattle.rules.specs.Shape.{carriers}
 use Rattle.rules.specs.Place.{digit}
 use Rattle.rules.specs.Spectrum.{odd, shared, spectrumAt, stages}
-use Rattle.spectrum.proofs.Pairs.{double-mul, stage-first, stage-second, pairs-all}
+use Rattle.spectrum.proofs.StagePairs.{double-mul, stage-first, stage-second, pairs-all}
 use Rattle.spectrum.proofs.Shared.{shared-even, shared-odd, negatedIf-odd-add}
 
 pub spectrumAt-suc : (m : ℕ) (y : ℕ → ℤ) (j : ℕ) → spectrumAt (suc m) y j

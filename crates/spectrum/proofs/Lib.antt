@@ -1,5 +1,5 @@
 -- Laws of the spectrum and its stages.
-pub mod Pairs
+pub mod StagePairs
 pub mod Blocks
 pub mod Shared
 pub mod Entries

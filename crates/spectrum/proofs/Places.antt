@@ -7,7 +7,7 @@ use mathlib.Core.Path.{_≡_, sym, _∙_}
 use lib.IntN.{ℤ}
 use Rattle.rules.specs.Shape.{carriers}
 use Rattle.rules.specs.Spectrum.{stage, stages}
-use Rattle.spectrum.proofs.Pairs.{stage-first, stage-second, pairs-all}
+use Rattle.spectrum.proofs.StagePairs.{stage-first, stage-second, pairs-all}
 
 pub stage-cong : (m k : ℕ) (y z : ℕ → ℤ) → ((i : ℕ) → i < carriers m → y i ≡ z i) → (i : ℕ) → 1 ≤ k → k ≤ m →
     i < carriers m → stage m k y i ≡ stage m k z i

@@ -23,7 +23,7 @@ use Rattle.rules.specs.Path.{IsPath, pathAt}
 use Rattle.rules.proofs.Range.{inM-range, inM-of}
 use Rattle.paths.proofs.Members.{isPath-in}
 use Rattle.paths.proofs.Number.{used-isPath}
-use Rattle.steps.specs.Steps.{pathRow, inUse, stepsOf, stepIn, unpacked}
+use Rattle.steps.specs.PathSteps.{pathRow, inUse, stepsOf, stepIn, unpacked}
 
 pub inUse-range : (m n : ℕ) → inUse m n ≡ true → (2 ≤ m) × (m ≤ greatestM) × (n < pathsInUse m)
 inUse-range m n e =

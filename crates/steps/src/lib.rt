@@ -9,7 +9,7 @@ use shape::STEPS;
 ghost use Prim.Native.Nat.{_≤_};
 ghost use mathlib.Core.Path.{_≡_};
 ghost use Rattle.rules.specs.Shape.{greatestM};
-ghost use Rattle.steps.specs.Steps.{inUse, stepsOf, unpacked};
+ghost use Rattle.steps.specs.PathSteps.{inUse, stepsOf, unpacked};
 
 // The steps of path n of m, 0 after the m-th, where m is in range and the path in use; else zeros.
 pub fn steps(m: u32, n: PathNumber) -> [u8; STEPS]

@@ -6,7 +6,7 @@ pub mod DecodingRows
 pub mod TransformRows
 pub mod Transforming
 pub mod Formula
-pub mod Pairs
+pub mod PairChecks
 pub mod Damage
 pub mod RoundTrips
 pub mod Proved

@@ -22,7 +22,7 @@ use Rattle.rules.proofs.Range.{inShape-range}
 use Rattle.rules.proofs.OutcomeLaws.{refuse-cases, refuseAt-cases}
 use Rattle.rules.proofs.SymbolLaws.{symbols-of-none, symbols-none}
 use Rattle.golay.proofs.Autocorrelations.{golayPair-iff-cancel}
-use Rattle.pair.proofs.Pairs.{golayPair-iff}
+use Rattle.pair.proofs.PairTest.{golayPair-iff}
 use Rattle.pair.proofs.Given.{pair-given}
 use Rattle.theorems.specs.Rows.{PairRow, pair-1, pair-2, pair-3-first, pair-3-second, pair-yes, pair-no}
 use Rattle.theorems.proofs.Rows.{firstTooGreat-of, firstTooGreat-is}

@@ -29,7 +29,7 @@ use Rattle.golay.proofs.Autocorrelations.{cancel-iff-counts}
 use Rattle.spectrum.proofs.Entries.{stages-spectrum}
 use Rattle.distances.proofs.Apart.{hamming-apart, lee-apart}
 use Rattle.distances.proofs.Inject.{unused-not-wordOf}
-use Rattle.encoder.proofs.SentLaws.{sent-unique}
+use Rattle.encoder.proofs.Unique.{sent-unique}
 use Rattle.pair.proofs.Unique.{paired-unique}
 use Rattle.reader.proofs.Unique.{reading-unique}
 use Rattle.refusals.proofs.Unique.{judged-unique}
@@ -52,8 +52,8 @@ use Rattle.theorems.proofs.Transforming.{areas-even, areas-odd, run-eve
 use Rattle.theorems.proofs.Transforming.{question-again, part-spectrum, part-even, part-odd, transform-keeps}
 use Rattle.theorems.proofs.Transforming.{transform-empty}
 use Rattle.theorems.proofs.Formula.{label-order-iff, parts-message, path-used, word-formula, partner-formula}
-use Rattle.theorems.proofs.Pairs.{word-partner, partner-cancels, written-yes, self-not-pair, self-no}
-use Rattle.theorems.proofs.Pairs.{yes-iff-pair, yes-iff-cancel, no-iff-not-cancel, envelope-together}
+use Rattle.theorems.proofs.PairChecks.{word-partner, partner-cancels, written-yes, self-not-pair, self-no}
+use Rattle.theorems.proofs.PairChecks.{yes-iff-pair, yes-iff-cancel, no-iff-not-cancel, envelope-together}
 use Rattle.theorems.proofs.Damage.{damage-two, damage-four}
 use Rattle.theorems.proofs.RoundTrips.{read-back, hard-back, soft-back, sixteen}
 

@@ -1,7 +1,7 @@
 -- What encode and partner leave in a slice: N symbols in range, of a shape and a message in range. In order: the words
 -- and the partners are such; the shape, the message and the word of what was written; where they write, and where they
 -- do not.
--- Not here: what the calls then answer (Pairs, Damage, RoundTrips).  Assumes nothing.
+-- Not here: what the calls then answer (PairChecks, Damage, RoundTrips).  Assumes nothing.
 use Prim.Native.Nat.{ℕ, _<_}
 use mathlib.Core.Path.{_≡_, sym, _∙_}
 use mathlib.Core.Bool.{true}
@@ -19,7 +19,8 @@ use Rattle.words.proofs.Forms.{length-wordOf, length-partnerOf, wordOf-lt, part
 use Rattle.encoder.specs.declared.Written.{Written}
 use Rattle.encoder.specs.declared.Written.the-variants.{Done}
 use Rattle.encoder.specs.Sent.{writtenTold, Sent}
-use Rattle.encoder.proofs.SentLaws.{sent-word, sent-kept, writtenTold-inj}
+use Rattle.encoder.proofs.SentLaws.{sent-word, sent-kept}
+use Rattle.encoder.proofs.Unique.{writtenTold-inj}
 
 pub wordOf-symbols : (h m g : ℕ) → inShape h m ≡ true → Symbols h m (wordOf h m g)
 wordOf-symbols h m g shape = record { shape = shape; long = length-wordOf h m g; below = wordOf-lt h m g }

@@ -24,7 +24,7 @@ use Rattle.rules.specs.Refusal.{transformRefusal}
 use Rattle.rules.specs.Areas.{inFirst, firstAfter, secondAfter, partOf, partLength, partInFirst}
 use Rattle.kinds.specs.declared.Judged.{Judged}
 use Rattle.kinds.specs.Refusals.{judgedTold}
-use Rattle.transform.specs.Told.{Ran, Handed, AtLast, AtLastOf}
+use Rattle.transform.specs.Transformed.{Ran, Handed, AtLast, AtLastOf}
 use Rattle.theorems.specs.Rows.{TransformRow}
 use Rattle.theorems.proofs.TransformRows.{transform-row, transform-only}
 

@@ -34,7 +34,7 @@ use Rattle.reader.specs.declared.Reading.{Reading}
 use Rattle.reader.specs.Reading.{readingTold}
 use Rattle.kinds.specs.declared.Judged.{Judged}
 use Rattle.kinds.specs.Refusals.{judgedTold}
-use Rattle.transform.specs.Told.{Ran, Handed, AtLast, AtLastOf}
+use Rattle.transform.specs.Transformed.{Ran, Handed, AtLast, AtLastOf}
 use Rattle.answers.specs.declared.Loudest.{Loudest}
 use Rattle.answers.specs.declared.Closest.{Closest}
 use Rattle.answers.specs.declared.Heard.{Heard}

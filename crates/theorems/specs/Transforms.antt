@@ -20,7 +20,7 @@ use Rattle.rules.specs.Outcome.{refuses, allowed}
 use Rattle.rules.specs.Refusal.{transformRefusal}
 use Rattle.kinds.specs.declared.Judged.{Judged}
 use Rattle.kinds.specs.Refusals.{judgedTold}
-use Rattle.transform.specs.Told.{Ran, Handed, AtLast, AtLastOf}
+use Rattle.transform.specs.Transformed.{Ran, Handed, AtLast, AtLastOf}
 use Rattle.theorems.specs.Rows.{TransformRow}
 
 pub record Transforms : Type 1 where

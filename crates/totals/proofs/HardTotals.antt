@@ -14,7 +14,7 @@ use Rattle.rules.proofs.SymbolLaws.{wordAt-lt}
 use Rattle.signals.proofs.Distances.{leeOf-le, distance-lee}
 use Rattle.totals.specs.Totals.{totalOf}
 use Rattle.totals.specs.Gains.{nearness, hardGain, tableOf}
-use Rattle.totals.proofs.Tables.{totalOf-table}
+use Rattle.totals.proofs.GainTables.{totalOf-table}
 
 pub hard-gain : (h : ℕ) (w : List ℕ) (i s : ℕ) → 1 ≤ h →
     hardGain h w i s + leeOf h (minus (phases h) (symbolAt w i) s) ≡ halfTurn h

@@ -5,7 +5,7 @@ pub mod Linear
 pub mod Words
 pub mod Stages
 pub mod Totals
-pub mod Tables
+pub mod GainTables
 pub mod SoftTotals
 pub mod HardTotals
 pub mod Answers

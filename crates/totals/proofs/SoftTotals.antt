@@ -24,7 +24,7 @@ use Rattle.rules.proofs.SymbolLaws.{wordAt-lt}
 use Rattle.signals.proofs.Hearing.{heard-half}
 use Rattle.totals.specs.Totals.{totalOf}
 use Rattle.totals.specs.Gains.{raiseBy, raised, softGain, tableOf}
-use Rattle.totals.proofs.Tables.{totalOf-table}
+use Rattle.totals.proofs.GainTables.{totalOf-table}
 
 subℕ-loudest : (b : ℕ) → b ≤ raiseBy → subℕ raiseBy b ≡ pos (raiseBy - b)
 subℕ-loudest b l = rw (le-ltb raiseBy b l)

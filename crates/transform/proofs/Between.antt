@@ -16,7 +16,7 @@ use Rattle.rules.specs.Shape.{carriers}
 use Rattle.rules.specs.Spectrum.{stages}
 use Rattle.rules.proofs.Range.{inM-range}
 use Rattle.rules.proofs.RefusalLaws.{TransformTaken}
-use Rattle.transform.specs.Steps.{butterfly, Readable, firstAt, secondAt}
+use Rattle.transform.specs.Butterflies.{butterfly, Readable, firstAt, secondAt}
 use Rattle.transform.proofs.Stages.{Holds, holds-readable, holds-turn, firstAt-none, secondAt-none}
 use Rattle.transform.proofs.Stages.{length-firstAt, length-secondAt}
 use Rattle.transform.proofs.Stages.{firstAt-holds, firstAt-turn, firstAt-stays}

@@ -35,7 +35,7 @@ use denote.Steps.{owned, facts, heard, nothing}
 use denote.Triple.Spec.{tripleOf}
 use denote.Triple.Statement.{Contract}
 use denote.Triple.Clauses.{ensured, lasts}
-use Rattle.transform.specs.Told.{Ran}
+use Rattle.transform.specs.Transformed.{Ran}
 use Rattle.transform.proofs.Again.{Own, under, Kept, Lent, lends-both, both-back}
 use Rattle.transform.proofs.run as run
 

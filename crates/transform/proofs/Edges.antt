@@ -36,7 +36,7 @@ use denote.Signature.{plain, mutSliceOf}
 use denote.Triple.Entry.{onEntry}
 use denote.Triple.Walked.{says, Stays, stay-none, stay-dropped, onExit, walkOf, ends-at}
 use Rattle.rules.specs.Areas.{partInFirst}
-use Rattle.transform.specs.Told.{Ran, Handed, AtLastOf, AtLast}
+use Rattle.transform.specs.Transformed.{Ran, Handed, AtLastOf, AtLast}
 use Rattle.transform.proofs.Calling.{vals, Both}
 use Rattle.transform.proofs.Handing.{part, Part, hands, left-promised}
 use Rattle.transform.proofs.transform as transform

@@ -8,7 +8,7 @@ use native.Mathlib.Omega.{arith}
 use mathlib.Core.Path.{_≡_, sym, _∙_, ap}
 use lib.IntN.{ℤ, _+ℤ_, _-ℤ_}
 use Rattle.spectrum.proofs.Blocks.{block-div, block-le}
-use Rattle.transform.specs.Steps.{butterfly, Start}
+use Rattle.transform.specs.Butterflies.{butterfly, Start}
 
 pub start-zero : (s : ℕ) → Start s 0
 start-zero s = record { number = 0; at = sym (zero-mul (2 * s)) }

@@ -7,7 +7,7 @@
 --     left-promised    what `run` leaves in the areas is what the transform promises of them
 --     fronts-out       any two areas: the front n of x, shared, and the last lists of both
 --     hands            of the transform's areas, from what `run` promises: the part that 01 says, and both last lists
--- Of the rules' definitions it uses the laws of Parts.antt alone.  Assumes `Given`.
+-- Of the rules' definitions it uses the laws of AreasAfter.antt alone.  Assumes `Given`.
 use Prim.Native.Nat.{ℕ}
 use mathlib.Core.Path.{_≡_, refl, sym, _∙_, ap, subst}
 use mathlib.Core.Bool.{Bool, true, false, cond}
@@ -31,8 +31,8 @@ use borrow.Table.Owned.{MutSlice as Bare, ShrSlice as BareShr, mut-slice-lawful}
 use borrow.Rule.Slice.Handed.{sl-share}
 use borrow.Rule.Slice.Prefix.{shs-prefix-same}
 use Rattle.rules.specs.Areas.{firstAfter, secondAfter, partOf, partLength, partInFirst}
-use Rattle.transform.specs.Told.{Ran, AtLastOf, AtLast}
-use Rattle.transform.proofs.Parts.{length-partOf, partOf-first, partOf-second}
+use Rattle.transform.specs.Transformed.{Ran, AtLastOf, AtLast}
+use Rattle.transform.proofs.AreasAfter.{length-partOf, partOf-first, partOf-second}
 use Rattle.transform.proofs.Again.{Own, bared}
 use Rattle.transform.proofs.Calling.{Both}
 

@@ -4,7 +4,7 @@ pub mod Bits
 pub mod Halves
 pub mod Stages
 pub mod Between
-pub mod Parts
+pub mod AreasAfter
 pub mod Unique
 pub mod Again
 pub mod Calling

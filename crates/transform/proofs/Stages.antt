@@ -1,7 +1,7 @@
 -- Stages one after another, between two areas. In order: a stage of code is a stage of the rules; an area that holds
 -- what stands after k stages may be read by the next, and what that writes is what stands after k + 1; which area holds
 -- which stage, before the first, after an even number, after an odd one.
--- Not here: one stage by itself (Halves); the loop over them (Between); what the areas hold at the end (Parts).
+-- Not here: one stage by itself (Halves); the loop over them (Between); what the areas hold at the end (AreasAfter).
 -- Assumes nothing.
 use Prim.Native.Nat.{ℕ, zero, suc, _+_, _-_, _*_, _/_, _%_, _^_, _≤_, _<_}
 use native.Mathlib.Nat.{lt-of-lt-of-le}
@@ -22,7 +22,7 @@ use Rattle.rules.specs.Spectrum.{accepted, stage, stages}
 use Rattle.spectrum.proofs.Blocks.{block-count}
 use Rattle.spectrum.proofs.Places.{stages-turn}
 use Rattle.spectrum.proofs.Bounds.{mostEntry, stages-most}
-use Rattle.transform.specs.Steps.{addable, butterfly, Readable, firstAt, secondAt}
+use Rattle.transform.specs.Butterflies.{addable, butterfly, Readable, firstAt, secondAt}
 
 -- no entry of any stage is too great
 pub mostEntry-le : mostEntry ≤ addable

@@ -15,7 +15,7 @@ use denote.Builtin.{i32}
 use denote.Ref.{RefT, ptr, name, now}
 use denote.Slice.{finally}
 use denote.ExitLaws.{finally-one}
-use Rattle.transform.specs.Told.{Ran, Handed, AtLastOf}
+use Rattle.transform.specs.Transformed.{Ran, Handed, AtLastOf}
 
 pub ran-unique : {m : ℕ} {a b : List ℤ} {n k : ℕ} {a′ b′ c′ d′ : List ℤ} → Ran m a b n a′ b′ → Ran m a b k c′ d′ →
     (n ≡ k) × (a′ ≡ c′) × (b′ ≡ d′)

@@ -1,2 +1,2 @@
-pub mod Told
-pub mod Steps
+pub mod Transformed
+pub mod Butterflies

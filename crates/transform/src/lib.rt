@@ -4,8 +4,8 @@
 // Refusals in their order: 1 an m out of range, 2 an area shorter than N, 7 an input out of range, with the first bad
 // place. A refused transform changes nothing, and hands back the empty part at the front of the first area;
 // `refusals::transform` answers which refusal it is.
-// Contracts cite rules, specs/Areas.antt and Spectrum.antt; of this crate specs/Told.antt and, for the steps,
-// Steps.antt.
+// Contracts cite rules, specs/Areas.antt and Spectrum.antt; of this crate specs/Transformed.antt and, for the steps,
+// Butterflies.antt.
 use kinds::Judged;
 ghost use Prim.Native.Nat.{_+_, _≤_, _<_};
 ghost use mathlib.Core.Path.{_≡_};
@@ -19,8 +19,8 @@ ghost use Rattle.range.specs.Signed.{entry};
 ghost use Rattle.rules.specs.Shape.{carriers};
 ghost use Rattle.rules.specs.Outcome.{allowed};
 ghost use Rattle.rules.specs.Refusal.{transformRefusal};
-ghost use Rattle.transform.specs.Told.{Ran, Handed, AtLast};
-ghost use Rattle.transform.specs.Steps.{butterfly, firstAt, secondAt, Readable, Block};
+ghost use Rattle.transform.specs.Transformed.{Ran, Handed, AtLast};
+ghost use Rattle.transform.specs.Butterflies.{butterfly, firstAt, secondAt, Readable, Block};
 
 // The spectrum of the first N entries of the first area, as a part of the area that holds it: of the first for even m,
 // of the second for odd m. The other area then holds what stood after stage m - 1, and entries from N on stay in both.

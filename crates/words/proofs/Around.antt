@@ -17,7 +17,7 @@ use Rattle.range.specs.Below.{oneIf}
 use Rattle.rules.specs.Place.{digit}
 use Rattle.rules.specs.Word.{links}
 use Rattle.places.proofs.Flips.{flip, digit-flip-at, digit-flip-off}
-use Rattle.paths.proofs.Pairs.{onPair, onPair-left, onPair-right, onPair-other}
+use Rattle.paths.proofs.LinkedPairs.{onPair, onPair-left, onPair-right, onPair-other}
 use Rattle.words.proofs.Readings.{Good}
 
 record Turned (m a : ℕ) (x y : ℕ → ℕ) : Type 0 where

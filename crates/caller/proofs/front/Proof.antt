@@ -18,11 +18,5 @@ entry-none (x ∷ a) e = absurd (suc-ne-zero (length a) e)
 returns : tie.Need-returns
 returns c = entry-none (now (c .before .args .area)) (c .if1 .taken)
 
-shared-slice-copy-out-result : tie.Need-shared-slice-copy-out-result
-shared-slice-copy-out-result c = search needs
-
-returns-2 : tie.Need-returns-2
-returns-2 c = search needs
-
 pub front-spec : {M : Type 1} → statement M
-front-spec = tie.close (tie.spec returns shared-slice-copy-out-result returns-2)
+front-spec = tie.close (tie.spec returns (λ c. search needs) (λ c. search needs))

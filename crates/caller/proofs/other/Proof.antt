@@ -8,17 +8,11 @@ use Rattle.transform.proofs.Bits.{bits-back}
 use Rattle.caller.proofs.other.Statement.{statement}
 use Rattle.caller.proofs.other.Tie as tie
 
-front-requires : tie.Need-front-requires
-front-requires c κs = search needs
-
 returns : tie.Need-returns
 returns c =
     let front = c .front in
     rw (eq-eqb (c .before .before .args .m % 2) 0 (c .before .if1 .taken))
     (bits-back (front .result) (front .ok) ∙ front .ensures)
-
-front-requires-2 : tie.Need-front-requires-2
-front-requires-2 c κs = search needs
 
 returns-2 : tie.Need-returns-2
 returns-2 c =
@@ -27,4 +21,4 @@ returns-2 c =
     (bits-back (front .result) (front .ok) ∙ front .ensures)
 
 pub other-spec : {M : Type 1} → statement M
-other-spec = tie.close (tie.spec front-requires returns front-requires-2 returns-2)
+other-spec = tie.close (tie.spec (λ c. search needs) returns (λ c. search needs) returns-2)

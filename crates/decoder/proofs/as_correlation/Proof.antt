@@ -18,9 +18,6 @@ use Rattle.decoder.proofs.Casts.{natural-fits, natural-is}
 use Rattle.decoder.proofs.as_correlation.Statement.{statement}
 use Rattle.decoder.proofs.as_correlation.Tie as tie
 
-power-requires : tie.Need-power-requires
-power-requires c κs = search needs
-
 -- n is N, at most that of the greatest m
 places : (c : tie.After-power) → c .power .result ≡ carriers (c .before .args .m)
 places c = c .power .ensures ∙ power-carriers (c .before .args .h) (c .before .args .m) (c .before .pre .0)
@@ -30,12 +27,6 @@ places-most c = carriers-most _ _ (inShape-range (c .before .args .h) (c .before
 
 cast-n : tie.Need-cast-n
 cast-n c = record { sfits = omega (arith, places c, places-most c) }
-
-message-of-requires : tie.Need-message-of-requires
-message-of-requires c κs = search needs
-
-cast-t7 : tie.Need-cast-t7
-cast-t7 c = search needs
 
 -- the greatest total, and what it is raised by
 abbrev best : tie.After-power → ℕ
@@ -83,4 +74,4 @@ returns c =
 
 pub as-correlation-spec : {M : Type 1} → statement M
 as-correlation-spec =
-    tie.close (tie.spec power-requires cast-n message-of-requires cast-t7 mul-t8 sub-t9 returns)
+    tie.close (tie.spec (λ c. search needs) cast-n (λ c. search needs) (λ c. search needs) mul-t8 sub-t9 returns)

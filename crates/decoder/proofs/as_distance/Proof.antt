@@ -22,9 +22,6 @@ sub-power c = ranged c .h-least
 add-power : tie.Need-add-power
 add-power c = omega (arith, ranged c .h-most, ranged c .m-most)
 
-power-requires : tie.Need-power-requires
-power-requires c κs = search needs
-
 -- the exponent, and the power
 exponent-most : (c : tie.Start) → c .args .h - 1 + c .args .m ≤ greatestH - 1 + greatestM
 exponent-most c = omega (arith, ranged c .h-most, ranged c .m-most)
@@ -41,9 +38,6 @@ most-turns c =
 cast-most : tie.Need-cast-most
 cast-most c = omega (arith, most c, pow-mono (exponent-most (c .before)))
 
-message-of-requires : tie.Need-message-of-requires
-message-of-requires c κs = search needs
-
 sub-t6 : tie.Need-sub-t6
 sub-t6 c = rw (most-turns (c .before .before)) (c .before .before .before .pre .1)
 
@@ -57,5 +51,4 @@ returns c =
 
 pub as-distance-spec : {M : Type 1} → statement M
 as-distance-spec =
-    tie.close
-    (tie.spec sub-power add-power power-requires cast-most message-of-requires sub-t6 returns)
+    tie.close (tie.spec sub-power add-power (λ c. search needs) cast-most (λ c. search needs) sub-t6 returns)

@@ -12,7 +12,7 @@ use Rattle.rules.specs.Shape.{greatestH, phases, carriers}
 use Rattle.rules.proofs.Range.{InRange, inShape-range, phases-most}
 use Rattle.shape.proofs.Powers.{power-phases, power-carriers}
 use Rattle.totals.specs.Gains.{hardGain}
-use Rattle.decoder.proofs.Tables.{gainOf, places-pos, place-lt, symbol-lt, table-filled}
+use Rattle.decoder.proofs.FilledGains.{gainOf, places-pos, place-lt, symbol-lt, table-filled}
 use Rattle.decoder.proofs.compare.Statement.{statement}
 use Rattle.decoder.proofs.compare.Tie as tie
 
@@ -28,12 +28,6 @@ start c = c .before .before .before .before
 
 ranged : (c : tie.Start Inv-loop μ-loop) → InRange (c .args .h) (c .args .m)
 ranged c = inShape-range (c .args .h) (c .args .m) (c .pre .0 .0)
-
-power-requires : tie.Need-power-requires Inv-loop μ-loop
-power-requires c κs = search needs
-
-power-requires-2 : tie.Need-power-requires-2 Inv-loop μ-loop
-power-requires-2 c κs = search needs
 
 -- n is N, and q is 2^h, at most the most phases
 places : (c : tie.After-power2 Inv-loop μ-loop) → c .before .power .result ≡ carriers (start c .args .m)
@@ -90,12 +84,6 @@ cast-hard-gain c = omega (arith, symbol (c .before), turn-most (c .before .befor
 hard-gain-requires : tie.Need-hard-gain-requires Inv-loop μ-loop
 hard-gain-requires c κs = (omega (arith, turn-most (c .before .before .before)), symbol (c .before))
 
-mul-gains : tie.Need-mul-gains Inv-loop μ-loop
-mul-gains c = search needs
-
-slice-write-gains : tie.Need-slice-write-gains Inv-loop μ-loop
-slice-write-gains c = search needs
-
 add-e : tie.Need-add-e Inv-loop μ-loop
 add-e c = omega (arith, inside (c .before .before))
 
@@ -126,6 +114,6 @@ returns c =
 pub compare-spec : {M : Type 1} → statement M
 compare-spec =
     tie.close
-    (tie.spec Inv-loop μ-loop power-requires power-requires-2 loop-holds rem-hard-gain shared-slice-read-hard-gain
-    div-hard-gain cast-hard-gain hard-gain-requires mul-gains slice-write-gains add-e loop-less loop-again same-length
-    returns)
+    (tie.spec Inv-loop μ-loop (λ c. search needs) (λ c. search needs) loop-holds rem-hard-gain
+    shared-slice-read-hard-gain div-hard-gain cast-hard-gain hard-gain-requires (λ c. search needs) (λ c. search needs)
+    add-e loop-less loop-again same-length returns)

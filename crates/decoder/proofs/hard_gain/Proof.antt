@@ -14,9 +14,6 @@ use Rattle.totals.specs.Gains.{nearness}
 use Rattle.decoder.proofs.hard_gain.Statement.{statement}
 use Rattle.decoder.proofs.hard_gain.Tie as tie
 
-minus-requires : tie.Need-minus-requires
-minus-requires c κs = search needs
-
 -- the difference, which is below q
 difference : (c : tie.After-minus) → let args = c .before .args in
     c .minus .result ≡ minus (args .q) (args .a) (args .s)
@@ -34,19 +31,10 @@ difference-lt c =
     let args = c .before .args in
     omega (arith, difference c, mod-lt (args .a + (args .q - args .s)) {m = args .q} (omega (arith, c .before .pre .1)))
 
-sub-result : tie.Need-sub-result
-sub-result c = search needs
-
-cast-result : tie.Need-cast-result
-cast-result c = search needs
-
 returns : tie.Need-returns
 unfolding nearness leeOf
 returns c h one e =
     omega (arith, e, difference-of (c .before) h e, phases-half h one, c .if1 .taken)
-
-sub-result-2 : tie.Need-sub-result-2
-sub-result-2 c = search needs
 
 cast-result-2 : tie.Need-cast-result-2
 cast-result-2 c = omega (arith, difference-lt (c .before))
@@ -59,4 +47,5 @@ returns-2 c h one e =
 pub hard-gain-spec : {M : Type 1} → statement M
 hard-gain-spec =
     tie.close
-    (tie.spec minus-requires sub-result cast-result returns sub-result-2 cast-result-2 returns-2)
+    (tie.spec (λ c. search needs) (λ c. search needs) (λ c. search needs) returns (λ c. search needs) cast-result-2
+    returns-2)

@@ -21,9 +21,6 @@ raise-requires c κs =
     let t = taken s in
     ((t .shape, t .few), (t .long ∙ softLength-product _ _ (t .shape) (t .few), s .pre .1))
 
-search-requires : tie.Need-search-requires
-search-requires c κs = search needs
-
 -- the function's entry, seen from behind the table of gains, and that table, seen from behind the search
 abbrev start : tie.After-raise → tie.Start
 start c = c .before .before .before
@@ -48,9 +45,6 @@ as-correlation-requires c κs =
           (searched-gains c),
     )
 
-same-length : tie.Need-same-length
-same-length c = search needs
-
 returns : tie.Need-returns
 returns c =
     let found = c .before in
@@ -60,5 +54,4 @@ returns c =
     (raised found .raise .ensures .1) (searched-gains found) _ _ _ (e .0) (e .1) (e .2)
 
 pub hear-spec : {M : Type 1} → statement M
-hear-spec =
-    tie.close (tie.spec raise-requires search-requires as-correlation-requires same-length returns)
+hear-spec = tie.close (tie.spec raise-requires (λ c. search needs) as-correlation-requires (λ c. search needs) returns)

@@ -17,7 +17,7 @@ use Rattle.rules.specs.Shape.{phases, halfTurn, carriers}
 use Rattle.rules.proofs.Range.{InRange, inShape-range, phases-half}
 use Rattle.shape.proofs.Powers.{power-is, power-carriers}
 use Rattle.totals.specs.Gains.{softGain}
-use Rattle.decoder.proofs.Tables.{gainOf, places-pos, place-lt, symbol-lt, table-filled}
+use Rattle.decoder.proofs.FilledGains.{gainOf, places-pos, place-lt, symbol-lt, table-filled}
 use Rattle.decoder.proofs.Values.{SmallAt, small-all}
 use Rattle.decoder.proofs.raise.Statement.{statement}
 use Rattle.decoder.proofs.raise.Tie as tie
@@ -37,14 +37,8 @@ start c = c .before .before .before
 ranged : (c : tie.Start Inv-loop μ-loop) → InRange (c .args .h) (c .args .m)
 ranged c = inShape-range (c .args .h) (c .args .m) (c .pre .0 .0)
 
-power-requires : tie.Need-power-requires Inv-loop μ-loop
-power-requires c κs = search needs
-
 sub-power : tie.Need-sub-power Inv-loop μ-loop
 sub-power c = ranged (c .before .before) .h-least
-
-power-requires-2 : tie.Need-power-requires-2 Inv-loop μ-loop
-power-requires-2 c κs = search needs
 
 -- n is N, and half is half a turn
 places : (c : tie.After-power2 Inv-loop μ-loop) → c .before .power .result ≡ carriers (start c .args .m)
@@ -93,12 +87,6 @@ soft-gain-requires c κs =
       ),
     )
 
-mul-gains : tie.Need-mul-gains Inv-loop μ-loop
-mul-gains c = search needs
-
-slice-write-gains : tie.Need-slice-write-gains Inv-loop μ-loop
-slice-write-gains c = search needs
-
 add-e : tie.Need-add-e Inv-loop μ-loop
 add-e c = omega (arith, inside (c .before))
 
@@ -144,5 +132,5 @@ returns c =
 pub raise-spec : {M : Type 1} → statement M
 raise-spec =
     tie.close
-    (tie.spec Inv-loop μ-loop power-requires sub-power power-requires-2 loop-holds rem-soft-gain div-soft-gain
-    soft-gain-requires mul-gains slice-write-gains add-e loop-less loop-again same-length returns)
+    (tie.spec Inv-loop μ-loop (λ c. search needs) sub-power (λ c. search needs) loop-holds rem-soft-gain div-soft-gain
+    soft-gain-requires (λ c. search needs) (λ c. search needs) add-e loop-less loop-again same-length returns)

@@ -27,21 +27,6 @@ module _ (h : ℕ) (ys : List ℤ) (half i s : ℕ) (e : half ≡ halfTurn h) wh
   unfolding softGain
   second l = rw (← e, le-ltb s half l)
 
-mul-raised : tie.Need-mul-raised
-mul-raised c = search needs
-
-add-raised : tie.Need-add-raised
-add-raised c = search needs
-
-mul-raised-2 : tie.Need-mul-raised-2
-mul-raised-2 c = search needs
-
-shared-slice-copy-out-raised : tie.Need-shared-slice-copy-out-raised
-shared-slice-copy-out-raised c = search needs
-
-raised-requires : tie.Need-raised-requires
-raised-requires c κs = search needs
-
 returns : tie.Need-returns
 returns c =
     let args = c .before .before .before .args in
@@ -50,21 +35,6 @@ returns c =
           ∙ first h (now (args .values)) (args .half) (args .i) (args .s) e (c .before .before .if1 .taken),
       λ l. c .before .raised-arg .given,
     )
-
-mul-lowered : tie.Need-mul-lowered
-mul-lowered c = search needs
-
-add-lowered : tie.Need-add-lowered
-add-lowered c = search needs
-
-mul-lowered-2 : tie.Need-mul-lowered-2
-mul-lowered-2 c = search needs
-
-shared-slice-copy-out-lowered : tie.Need-shared-slice-copy-out-lowered
-shared-slice-copy-out-lowered c = search needs
-
-lowered-requires : tie.Need-lowered-requires
-lowered-requires c κs = search needs
 
 returns-2 : tie.Need-returns-2
 returns-2 c =
@@ -79,5 +49,6 @@ returns-2 c =
 pub soft-gain-spec : {M : Type 1} → statement M
 soft-gain-spec =
     tie.close
-    (tie.spec mul-raised add-raised mul-raised-2 shared-slice-copy-out-raised raised-requires returns mul-lowered
-    add-lowered mul-lowered-2 shared-slice-copy-out-lowered lowered-requires returns-2)
+    (tie.spec (λ c. search needs) (λ c. search needs) (λ c. search needs) (λ c. search needs) (λ c. search needs)
+    returns (λ c. search needs) (λ c. search needs) (λ c. search needs) (λ c. search needs) (λ c. search needs)
+    returns-2)

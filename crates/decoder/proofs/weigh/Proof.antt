@@ -20,9 +20,6 @@ compare-requires c κs =
     let t = taken s in
     ((t .symbols .shape, t .few), (t .symbols .long, s .pre .1))
 
-search-requires : tie.Need-search-requires
-search-requires c κs = search needs
-
 -- the function's entry, seen from behind the table of gains, and that table, seen from behind the search
 abbrev start : tie.After-compare → tie.Start
 start c = c .before .before .before .before
@@ -47,9 +44,6 @@ as-distance-requires c κs =
           (searched-gains c),
     )
 
-same-length : tie.Need-same-length
-same-length c = search needs
-
 returns : tie.Need-returns
 returns c =
     let found = c .before in
@@ -60,4 +54,4 @@ returns c =
     (searched-gains found) _ _ _ (e .0) (e .1) (e .2)
 
 pub weigh-spec : {M : Type 1} → statement M
-weigh-spec = tie.close (tie.spec compare-requires search-requires as-distance-requires same-length returns)
+weigh-spec = tie.close (tie.spec compare-requires (λ c. search needs) as-distance-requires (λ c. search needs) returns)

@@ -9,7 +9,7 @@ use denote.Ref.{now}
 use borrow.Author.Needs.{needs}
 use Rattle.range.specs.Below.{filled}
 use Rattle.range.proofs.Filled.{filled-zero, filled-turn, filled-end}
-use Rattle.encoder.specs.Steps.{symbolOf}
+use Rattle.encoder.specs.Arrays.{symbolOf}
 use Rattle.encoder.proofs.combine.Statement.{statement}
 use Rattle.encoder.proofs.combine.Tie as tie
 
@@ -34,12 +34,6 @@ loop-holds c = (omega arith, refl, filled-zero _ _)
 symbol-requires : tie.Need-symbol-requires Inv-loop μ-loop
 symbol-requires c κs = (start c .pre .0, omega (arith, start c .pre .1, inside c))
 
-slice-write-out : tie.Need-slice-write-out Inv-loop μ-loop
-slice-write-out c = search needs
-
-add-i : tie.Need-add-i Inv-loop μ-loop
-add-i c = search needs
-
 loop-less : tie.Need-loop-less Inv-loop μ-loop
 loop-less c = omega (arith, inside (c .before))
 
@@ -51,9 +45,6 @@ loop-again c =
       filled-turn (at-loop .i) _ _ (at-loop .out) _ (inside (c .before)) (at-loop .inv .2) (c .symbol .ensures),
     )
 
-same-length : tie.Need-same-length Inv-loop μ-loop
-same-length c = search needs
-
 returns : tie.Need-returns Inv-loop μ-loop
 returns c =
     let at-loop = c .before .loop in
@@ -63,4 +54,5 @@ returns c =
 pub combine-spec : {M : Type 1} → statement M
 combine-spec =
     tie.close
-    (tie.spec Inv-loop μ-loop loop-holds symbol-requires slice-write-out add-i loop-less loop-again same-length returns)
+    (tie.spec Inv-loop μ-loop loop-holds symbol-requires (λ c. search needs) (λ c. search needs) loop-less loop-again
+    (λ c. search needs) returns)

@@ -29,26 +29,11 @@ abbrev μ-loop : tie.MeasureT-loop
 abbrev rowOf : tie.Start Inv-loop μ-loop → ℕ → ℕ
 rowOf c k = digit (c .args .m) k (c .args .r)
 
-less-requires : tie.Need-less-requires Inv-loop μ-loop
-less-requires c κs = search needs
-
 loop-holds : tie.Need-loop-holds Inv-loop μ-loop
 loop-holds c = (lit≤ tt, filled-zero (rowOf (c .before)) zeros)
 
 shr-row : tie.Need-shr-row Inv-loop μ-loop
 shr-row c = omega (arith, c .before .before .less .ensures)
-
-cast-row : tie.Need-cast-row Inv-loop μ-loop
-cast-row c = search needs
-
-array-write-row : tie.Need-array-write-row Inv-loop μ-loop
-array-write-row c = search needs
-
-add-i : tie.Need-add-i Inv-loop μ-loop
-add-i c = search needs
-
-loop-less : tie.Need-loop-less Inv-loop μ-loop
-loop-less c = search needs
 
 loop-again : tie.Need-loop-again Inv-loop μ-loop
 unfolding digit
@@ -70,5 +55,5 @@ returns c =
 pub digits-spec : {M : Type 1} → statement M
 digits-spec =
     tie.close
-    (tie.spec Inv-loop μ-loop less-requires loop-holds shr-row cast-row array-write-row add-i loop-less loop-again
-    returns)
+    (tie.spec Inv-loop μ-loop (λ c. search needs) loop-holds shr-row (λ c. search needs) (λ c. search needs)
+    (λ c. search needs) (λ c. search needs) loop-again returns)

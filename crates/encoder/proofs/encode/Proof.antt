@@ -6,12 +6,6 @@ use Rattle.encoder.proofs.SentLaws.{sent-cong}
 use Rattle.encoder.proofs.encode.Statement.{statement}
 use Rattle.encoder.proofs.encode.Tie as tie
 
-send-requires : tie.Need-send-requires
-send-requires c κs = search needs
-
-same-length : tie.Need-same-length
-same-length c = search needs
-
 -- the function's entry, seen from the call
 abbrev start : tie.After-send → tie.Start
 start c = c .before .before .before
@@ -22,4 +16,4 @@ returns c =
     sent-cong (lifted-word (args .h) (args .m) (args .message .0)) (c .before .before .send .ensures)
 
 pub encode-spec : {M : Type 1} → statement M
-encode-spec = tie.close (tie.spec send-requires same-length returns)
+encode-spec = tie.close (tie.spec (λ c. search needs) (λ c. search needs) returns)

@@ -8,15 +8,12 @@ use borrow.Author.Needs.{needs}
 use Rattle.rules.specs.Shape.{greatestH, phases, halfTurn, pathsInUse}
 use Rattle.rules.proofs.Range.{InRange, inShape-range, phases-by-two, phases-least, phases-most, carriers-most}
 use Rattle.shape.proofs.Powers.{power-phases}
-use Rattle.steps.specs.Steps.{pathRow}
+use Rattle.steps.specs.PathSteps.{pathRow}
 use Rattle.steps.proofs.PathTable.{stepsOf-used}
 use Rattle.words.proofs.Labels.{labelPath-lt}
 use Rattle.encoder.proofs.Formula.{Held, held-cells, held-small, held-walk, held-symbols}
 use Rattle.encoder.proofs.fill.Statement.{statement}
 use Rattle.encoder.proofs.fill.Tie as tie
-
-power-requires : tie.Need-power-requires
-power-requires c κs = search needs
 
 -- the function's entry, seen from the call of power; that call and the call of split, seen from the last before combine
 abbrev start : tie.After-power → tie.Start
@@ -41,14 +38,8 @@ base-most c = omega (arith, base c, phases-most _ _ (ranged c))
 cast-q : tie.Need-cast-q
 cast-q c = omega (arith, base-most c)
 
-split-requires : tie.Need-split-requires
-split-requires c κs = search needs
-
 generator-requires : tie.Need-generator-requires
 generator-requires c κs = ranged (c .before .before .before) .m-most
-
-steps-requires : tie.Need-steps-requires
-steps-requires c κs = search needs
 
 -- the path is in use, and its steps are held
 used : (c : tie.After-steps) → let args = start (at-power c) .args in
@@ -108,9 +99,6 @@ combine-requires c κs =
       omega (arith, start p .pre .1 .1 .1, carriers-most _ _ (ranged p)),
     )
 
-same-length : tie.Need-same-length
-same-length c = search needs
-
 returns : tie.Need-returns
 returns c =
     let at-combine = c .before .before in
@@ -121,5 +109,5 @@ returns c =
 pub fill-spec : {M : Type 1} → statement M
 fill-spec =
     tie.close
-    (tie.spec power-requires cast-q split-requires generator-requires steps-requires mul-combine combine-requires
-    same-length returns)
+    (tie.spec (λ c. search needs) cast-q (λ c. search needs) generator-requires (λ c. search needs) mul-combine
+    combine-requires (λ c. search needs) returns)

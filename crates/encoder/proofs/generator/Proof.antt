@@ -11,7 +11,7 @@ use Rattle.range.specs.Below.{listBelow, filled}
 use Rattle.range.proofs.Filled.{filled-turn, filled-end}
 use Rattle.rules.specs.Place.{generatorAt}
 use Rattle.rules.specs.Shape.{greatestM, carriers}
-use Rattle.encoder.specs.Steps.{generatorRows}
+use Rattle.encoder.specs.Arrays.{generatorRows}
 use Rattle.encoder.proofs.Matrix.{generator-row}
 use Rattle.encoder.proofs.generator.Statement.{statement}
 use Rattle.encoder.proofs.generator.Tie as tie
@@ -29,24 +29,9 @@ Inv-loop m g₀ r₀ g r = (1 ≤ r) × (r ≤ greatestM + 1) × (g ≡ filled r
 abbrev μ-loop : tie.MeasureT-loop
 μ-loop m g₀ r₀ g r = greatestM + 1 - r
 
-digits-requires : tie.Need-digits-requires Inv-loop μ-loop
-digits-requires c κs = search needs
-
 loop-holds : tie.Need-loop-holds Inv-loop μ-loop
 unfolding listBelow generatorAt
 loop-holds c = (lit≤ tt, lit≤ tt, refl)
-
-mul-g : tie.Need-mul-g Inv-loop μ-loop
-mul-g c = search needs
-
-array-set-from-g : tie.Need-array-set-from-g Inv-loop μ-loop
-array-set-from-g c = search needs
-
-add-r : tie.Need-add-r Inv-loop μ-loop
-add-r c = search needs
-
-loop-less : tie.Need-loop-less Inv-loop μ-loop
-loop-less c = search needs
 
 loop-again : tie.Need-loop-again Inv-loop μ-loop
 loop-again c =
@@ -68,4 +53,5 @@ returns c =
 pub generator-spec : {M : Type 1} → statement M
 generator-spec =
     tie.close
-    (tie.spec Inv-loop μ-loop loop-holds digits-requires mul-g array-set-from-g add-r loop-less loop-again returns)
+    (tie.spec Inv-loop μ-loop loop-holds (λ c. search needs) (λ c. search needs) (λ c. search needs) (λ c. search needs)
+    (λ c. search needs) loop-again returns)

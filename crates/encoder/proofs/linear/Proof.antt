@@ -7,7 +7,7 @@ use lib.ListN.{getD}
 use borrow.Author.Needs.{needs}
 use Rattle.range.specs.Below.{sumBelow}
 use Rattle.range.proofs.Sums.{sumBelow-turn}
-use Rattle.encoder.specs.Steps.{cell, linearOf}
+use Rattle.encoder.specs.Arrays.{cell, linearOf}
 use Rattle.encoder.proofs.Bounds.{term-le, terms-le, mostTerm, mostLinear}
 use Rattle.encoder.proofs.linear.Statement.{statement}
 use Rattle.encoder.proofs.linear.Tie as tie
@@ -18,21 +18,9 @@ Inv-loop g m i c n sum₀ r₀ sum r = (r ≤ n) × (sum ≡ sumBelow r (λ k. g
 abbrev μ-loop : tie.MeasureT-loop
 μ-loop g m i c n sum₀ r₀ sum r = n - r
 
-add-n : tie.Need-add-n Inv-loop μ-loop
-add-n c = search needs
-
 loop-holds : tie.Need-loop-holds Inv-loop μ-loop
 unfolding sumBelow
 loop-holds c = (search needs, refl)
-
-mul-sum : tie.Need-mul-sum Inv-loop μ-loop
-mul-sum c = search needs
-
-array-read-sum : tie.Need-array-read-sum Inv-loop μ-loop
-array-read-sum c = search needs
-
-at-requires : tie.Need-at-requires Inv-loop μ-loop
-at-requires c κs = search needs
 
 -- the coefficient and the term of row r
 abbrev coefficientAt : tie.Start Inv-loop μ-loop → ℕ → ℕ
@@ -83,12 +71,6 @@ mul-sum-2 c = omega (arith, small c)
 add-sum : tie.Need-add-sum Inv-loop μ-loop
 add-sum c = omega (arith, small c, sofar c)
 
-add-r : tie.Need-add-r Inv-loop μ-loop
-add-r c = search needs
-
-loop-less : tie.Need-loop-less Inv-loop μ-loop
-loop-less c = search needs
-
 loop-again : tie.Need-loop-again Inv-loop μ-loop
 loop-again c =
     let turn = at-loop c .loop in (search needs, sumBelow-turn (turn .r) (turn .sum) _ _ (turn .inv .1) (term c))
@@ -103,5 +85,5 @@ returns c =
 pub linear-spec : {M : Type 1} → statement M
 linear-spec =
     tie.close
-    (tie.spec Inv-loop μ-loop add-n loop-holds mul-sum array-read-sum at-requires mul-sum-2 add-sum add-r loop-less
-    loop-again returns)
+    (tie.spec Inv-loop μ-loop (λ c. search needs) loop-holds (λ c. search needs) (λ c. search needs) (λ c. search needs)
+    mul-sum-2 add-sum (λ c. search needs) (λ c. search needs) loop-again returns)

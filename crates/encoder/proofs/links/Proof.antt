@@ -8,7 +8,7 @@ use borrow.Author.Needs.{needs}
 use Rattle.range.specs.Below.{sumBelow}
 use Rattle.range.proofs.Sums.{sumBelow-turn}
 use Rattle.rules.specs.Shape.{greatestM}
-use Rattle.encoder.specs.Steps.{cell, linksOf}
+use Rattle.encoder.specs.Arrays.{cell, linksOf}
 use Rattle.encoder.proofs.Bounds.{link-le, linkSum-le, mostLinks}
 use Rattle.encoder.proofs.links.Statement.{statement}
 use Rattle.encoder.proofs.links.Tie as tie
@@ -41,9 +41,6 @@ turn c = turn-first (c .before .before)
 step-le : (c : tie.In-loop Inv-loop μ-loop) (k : ℕ) → k < start c .args .m → getD (start c .args .t2) k 0 ≤ greatestM
 step-le c k h = omega (arith, start c .pre .1 .0 .steps k h, start c .pre .0 .most)
 
-sub-n : tie.Need-sub-n Inv-loop μ-loop
-sub-n c = search needs
-
 loop-holds : tie.Need-loop-holds Inv-loop μ-loop
 unfolding sumBelow
 loop-holds c = (search needs, refl)
@@ -51,23 +48,14 @@ loop-holds c = (search needs, refl)
 array-read-index : tie.Need-array-read-index Inv-loop μ-loop
 array-read-index c = omega (arith, start c .pre .0 .most, c .loop-test .taken)
 
-index-requires : tie.Need-index-requires Inv-loop μ-loop
-index-requires c κs = search needs
-
 at-requires : tie.Need-at-requires Inv-loop μ-loop
 at-requires c κs =
     let t = c .before in
     let small = step-le t (t .before .loop .k) (omega (arith, t .loop-test .taken)) in
     (omega (arith, small, c .index .ensures), start t .pre .1 .1)
 
-add-index : tie.Need-add-index Inv-loop μ-loop
-add-index c = search needs
-
 array-read-index-2 : tie.Need-array-read-index-2 Inv-loop μ-loop
 array-read-index-2 c = omega (arith, start (turn-first c) .pre .0 .most, turn-first c .loop-test .taken)
-
-index-requires-2 : tie.Need-index-requires-2 Inv-loop μ-loop
-index-requires-2 c κs = search needs
 
 at-requires-2 : tie.Need-at-requires-2 Inv-loop μ-loop
 at-requires-2 c κs =
@@ -114,12 +102,6 @@ mul-sum c = omega (arith, small c)
 add-sum : tie.Need-add-sum Inv-loop μ-loop
 add-sum c = omega (arith, small c, sofar c)
 
-add-k : tie.Need-add-k Inv-loop μ-loop
-add-k c = search needs
-
-loop-less : tie.Need-loop-less Inv-loop μ-loop
-loop-less c = search needs
-
 loop-again : tie.Need-loop-again Inv-loop μ-loop
 loop-again c =
     let at-loop = turn c .before .loop in (
@@ -137,5 +119,6 @@ returns c =
 pub links-spec : {M : Type 1} → statement M
 links-spec =
     tie.close
-    (tie.spec Inv-loop μ-loop sub-n loop-holds array-read-index index-requires at-requires add-index
-    array-read-index-2 index-requires-2 at-requires-2 mul-sum add-sum add-k loop-less loop-again returns)
+    (tie.spec Inv-loop μ-loop (λ c. search needs) loop-holds array-read-index (λ c. search needs) at-requires
+    (λ c. search needs) array-read-index-2 (λ c. search needs) at-requires-2 mul-sum add-sum (λ c. search needs)
+    (λ c. search needs) loop-again returns)

@@ -13,7 +13,7 @@ use Rattle.rules.specs.Refusal.{sendRefusal}
 use Rattle.rules.proofs.Messages.{labelOf-lt}
 use Rattle.rules.proofs.RefusalLaws.{SendTaken, send-taken}
 use Rattle.kinds.specs.Refusals.{judgedTold}
-use Rattle.encoder.specs.Steps.{liftedAt}
+use Rattle.encoder.specs.Arrays.{liftedAt}
 use Rattle.encoder.proofs.SentLaws.{sent-refused, sent-done}
 use Rattle.encoder.proofs.send.Statement.{statement}
 use Rattle.encoder.proofs.send.Tie as tie

@@ -21,9 +21,6 @@ Inv-loop h m label q c₀ rest₀ r₀ c rest r = Taken h m label q r rest c
 abbrev μ-loop : tie.MeasureT-loop
 μ-loop h m label q c₀ rest₀ r₀ c rest r = r
 
-power-requires : tie.Need-power-requires Inv-loop μ-loop
-power-requires c κs = search needs
-
 ranged : (c : tie.After-power Inv-loop μ-loop) → InRange (c .before .args .h) (c .before .args .m)
 ranged c = inShape-range _ _ (c .before .pre .0)
 
@@ -47,9 +44,6 @@ rem-c c = omega (arith, base-least c)
 cast-c : tie.Need-cast-c Inv-loop μ-loop
 cast-c c = omega (arith, left-lt c (c .before .args .label))
 
-array-write-c : tie.Need-array-write-c Inv-loop μ-loop
-array-write-c c = search needs
-
 div-rest : tie.Need-div-rest Inv-loop μ-loop
 div-rest c = omega (arith, base-least c)
 
@@ -72,12 +66,6 @@ array-write-c-2 c = omega (arith, c .before .loop .inv .within, ranged (c .befor
 
 div-rest-2 : tie.Need-div-rest-2 Inv-loop μ-loop
 div-rest-2 c = omega (arith, base-least (c .before .before))
-
-sub-r : tie.Need-sub-r Inv-loop μ-loop
-sub-r c = search needs
-
-loop-less : tie.Need-loop-less Inv-loop μ-loop
-loop-less c = search needs
 
 loop-again : tie.Need-loop-again Inv-loop μ-loop
 loop-again c =
@@ -115,5 +103,5 @@ returns c =
 pub split-spec : {M : Type 1} → statement M
 split-spec =
     tie.close
-    (tie.spec Inv-loop μ-loop power-requires rem-c cast-c array-write-c div-rest loop-holds rem-c-2 cast-c-2 mul-c
-    array-write-c-2 div-rest-2 sub-r loop-less loop-again cast-t10 returns)
+    (tie.spec Inv-loop μ-loop (λ c. search needs) rem-c cast-c (λ c. search needs) div-rest loop-holds rem-c-2 cast-c-2
+    mul-c array-write-c-2 div-rest-2 (λ c. search needs) (λ c. search needs) loop-again cast-t10 returns)

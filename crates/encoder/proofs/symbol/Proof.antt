@@ -7,22 +7,10 @@ use mathlib.Core.Path.{_≡_, _∙_, ap}
 use lib.ListN.{getD}
 use borrow.Author.Needs.{needs}
 use Rattle.rules.specs.Shape.{greatestH, halfTurn}
-use Rattle.encoder.specs.Steps.{cell, symbolOf}
+use Rattle.encoder.specs.Arrays.{cell, symbolOf}
 use Rattle.encoder.proofs.Bounds.{linearOf-le, linksOf-le, first-le, mostLinear, mostLinks}
 use Rattle.encoder.proofs.symbol.Statement.{statement}
 use Rattle.encoder.proofs.symbol.Tie as tie
-
-links-requires : tie.Need-links-requires
-links-requires c κs = search needs
-
-linear-requires : tie.Need-linear-requires
-linear-requires c κs = search needs
-
-array-read-index : tie.Need-array-read-index
-array-read-index c = search needs
-
-index-requires : tie.Need-index-requires
-index-requires c κs = search needs
 
 at-requires : tie.Need-at-requires
 at-requires c κs =
@@ -82,9 +70,6 @@ mul-result-2 c = omega (arith, first-small c)
 add-result-2 : tie.Need-add-result-2
 add-result-2 c = omega (arith, links-small c, linear-small c, first-small c)
 
-rem-result : tie.Need-rem-result
-rem-result c = search needs
-
 cast-result : tie.Need-cast-result
 cast-result c =
     let args = start c .args in
@@ -99,5 +84,5 @@ returns c = rw (c .before .before .before .links .ensures, c .before .before .li
 pub symbol-spec : {M : Type 1} → statement M
 symbol-spec =
     tie.close
-    (tie.spec links-requires linear-requires array-read-index index-requires at-requires mul-result add-result
-    mul-result-2 add-result-2 rem-result cast-result returns)
+    (tie.spec (λ c. search needs) (λ c. search needs) (λ c. search needs) (λ c. search needs) at-requires mul-result
+    add-result mul-result-2 add-result-2 (λ c. search needs) cast-result returns)

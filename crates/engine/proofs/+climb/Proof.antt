@@ -7,7 +7,7 @@ use mathlib.Core.Path.{_≡_, refl, sym, _∙_, subst}
 use denote.Ref.{now}
 use borrow.Fn.Kinds.{In}
 use borrow.Fn.PlainCycle.{Measures, is, falls, and}
-use Rattle.engine.specs.Tables.{Climbing}
+use Rattle.engine.specs.SearchTables.{Climbing}
 use Rattle.engine.proofs.Climbing.{wanted, none-left, some-left, climbing-last, climbing-done, climbing-room}
 use Rattle.engine.proofs.Climbing.{climbing-product, climbing-next, climbing-returned}
 use Rattle.engine.proofs.climb.Reads as climb

@@ -11,9 +11,6 @@ use Rattle.engine.proofs.RunLaws.{front-written}
 use Rattle.engine.proofs.begin.Statement.{statement}
 use Rattle.engine.proofs.begin.Tie as tie
 
-slice-relend-prefix-start : tie.Need-slice-relend-prefix-start
-slice-relend-prefix-start c = search needs
-
 slice-aggregate-start : tie.Need-slice-aggregate-start
 slice-aggregate-start c = sym (length-take-le _ _ (c .before .before .before .before .pre .1))
 
@@ -21,9 +18,6 @@ start-requires : tie.Need-start-requires
 start-requires c κs =
     let pre = c .before .before .before .before .pre in
     (pre .0, length-take-le _ _ (pre .1) ∙ pre .0 .long)
-
-same-length : tie.Need-same-length
-same-length c = search needs
 
 returns : tie.Need-returns
 returns c =
@@ -34,5 +28,4 @@ returns c =
     (length-gainsWith (s .args .q) (length word) word gains ∙ sym (s .pre .0 .long)) (c .before .before .start .ensures)
 
 pub begin-spec : {M : Type 1} → statement M
-begin-spec =
-    tie.close (tie.spec slice-relend-prefix-start slice-aggregate-start start-requires same-length returns)
+begin-spec = tie.close (tie.spec (λ c. search needs) slice-aggregate-start start-requires (λ c. search needs) returns)

@@ -8,9 +8,6 @@ use Rattle.engine.proofs.RunLaws.{runs-size}
 use Rattle.engine.proofs.finish.Statement.{statement}
 use Rattle.engine.proofs.finish.Tie as tie
 
-mul-n : tie.Need-mul-n
-mul-n c = search needs
-
 mul-n-2 : tie.Need-mul-n-2
 mul-n-2 c =
     let s = c .before in
@@ -19,14 +16,6 @@ mul-n-2 c =
 mul-n-3 : tie.Need-mul-n-3
 mul-n-3 c = omega (arith, runs-size _ _ _ _ (c .before .pre .0))
 
-slice-aggregate-last : tie.Need-slice-aggregate-last
-slice-aggregate-last c = search needs
-
-last-requires : tie.Need-last-requires
-last-requires c κs = search needs
-
-returns : tie.Need-returns
-returns c = search needs
-
 pub finish-spec : {M : Type 1} → statement M
-finish-spec = tie.close (tie.spec mul-n mul-n-2 mul-n-3 slice-aggregate-last last-requires returns)
+finish-spec =
+    tie.close (tie.spec (λ c. search needs) mul-n-2 mul-n-3 (λ c. search needs) (λ c. search needs) (λ c. search needs))

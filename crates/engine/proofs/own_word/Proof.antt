@@ -6,15 +6,6 @@ use Rattle.engine.proofs.Sending.{sent-own}
 use Rattle.engine.proofs.own_word.Statement.{statement}
 use Rattle.engine.proofs.own_word.Tie as tie
 
-message-of-requires : tie.Need-message-of-requires
-message-of-requires c κs = search needs
-
-encode-requires : tie.Need-encode-requires
-encode-requires c κs = search needs
-
-same-length : tie.Need-same-length
-same-length c = search needs
-
 returns : tie.Need-returns
 returns c =
     let s = c .before .before .before .before .before .before in
@@ -22,4 +13,4 @@ returns c =
     (c .before .before .before .before .message-of .ensures .0 (s .pre .0)) (c .before .before .encode .ensures)
 
 pub own-word-spec : {M : Type 1} → statement M
-own-word-spec = tie.close (tie.spec message-of-requires encode-requires same-length returns)
+own-word-spec = tie.close (tie.spec (λ c. search needs) (λ c. search needs) (λ c. search needs) returns)

@@ -42,15 +42,6 @@ climb-requires c κs =
     path-climbing _ _ _ _ _ _ (start (own .before) .pre) _ (own .own-word .ensures) _ (began .begin .ensures .0)
     (began .begin .ensures .1)
 
-same-length : tie.Need-same-length
-same-length c = search needs
-
-same-length-2 : tie.Need-same-length-2
-same-length-2 c = search needs
-
-same-length-3 : tie.Need-same-length-3
-same-length-3 c = search needs
-
 returns : tie.Need-returns
 returns c =
     let climbed = c .before .before .before .before in
@@ -63,12 +54,5 @@ returns c =
 pub path-spec : {M : Type 1} → statement M
 path-spec =
     tie.close
-    (tie.spec
-    own-word-requires
-    begin-requires
-    sub-climb
-    climb-requires
-    same-length
-    same-length-2
-    same-length-3
-    returns)
+    (tie.spec own-word-requires begin-requires sub-climb climb-requires (λ c. search needs) (λ c. search needs)
+    (λ c. search needs) returns)

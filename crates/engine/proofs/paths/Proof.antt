@@ -7,6 +7,7 @@ use native.Mathlib.Omega.{arith}
 use mathlib.Core.Path.{_≡_, refl, sym, _∙_, ap}
 use lib.ListN.{length}
 use denote.Ref.{now}
+use borrow.Author.Needs.{needs}
 use Rattle.range.proofs.Products.{times-within}
 use Rattle.rules.proofs.Range.{inShape-range, messages-most}
 use Rattle.totals.specs.Totals.{totalOf}
@@ -76,9 +77,6 @@ add-first c = omega (arith, counted (turn c))
 add-n : tie.Need-add-n Inv-loop μ-loop
 add-n c = omega (arith, turn c .loop-test .taken)
 
-loop-less : tie.Need-loop-less Inv-loop μ-loop
-loop-less c = omega arith
-
 loop-again : tie.Need-loop-again Inv-loop μ-loop
 loop-again c =
     let in-loop = turn c in
@@ -116,16 +114,5 @@ returns c =
 pub paths-spec : {M : Type 1} → statement M
 paths-spec =
     tie.close
-    (tie.spec
-    Inv-loop
-    μ-loop
-    loop-holds
-    path-requires
-    add-first
-    add-n
-    loop-less
-    loop-again
-    same-length
-    same-length-2
-    same-length-3
-    returns)
+    (tie.spec Inv-loop μ-loop loop-holds path-requires add-first add-n (λ c. search needs) loop-again same-length
+    same-length-2 same-length-3 returns)

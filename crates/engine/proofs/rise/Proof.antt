@@ -11,7 +11,7 @@ use borrow.Author.Needs.{needs}
 use Rattle.range.proofs.Products.{times-least}
 use Rattle.totals.specs.Climb.{climbed}
 use Rattle.totals.proofs.Runs.{length-climbed}
-use Rattle.engine.specs.Tables.{tableIn}
+use Rattle.engine.specs.SearchTables.{tableIn}
 use Rattle.engine.proofs.RunLaws.{runs-size, front-written}
 use Rattle.engine.proofs.rise.Statement.{statement}
 use Rattle.engine.proofs.rise.Tie as tie
@@ -45,15 +45,6 @@ mul-k-2 c =
     let least = times-least (s .args .q * s .args .half * s .args .q) (s .args .w) (s .pre .0 .run) in
     omega (arith, least, s .pre .1)
 
-mul-k-3 : tie.Need-mul-k-3
-mul-k-3 c = search needs
-
-slice-aggregate-stage : tie.Need-slice-aggregate-stage
-slice-aggregate-stage c = search needs
-
-slice-relend-prefix-stage : tie.Need-slice-relend-prefix-stage
-slice-relend-prefix-stage c = search needs
-
 slice-aggregate-stage-2 : tie.Need-slice-aggregate-stage-2
 slice-aggregate-stage-2 c = sym (length-take-le _ _ (c .before .before .before .before .pre .1))
 
@@ -61,9 +52,6 @@ stage-requires : tie.Need-stage-requires
 stage-requires c κs =
     let pre = c .before .before .before .before .pre in
     (pre .0, length-take-le _ _ (pre .1))
-
-same-length : tie.Need-same-length
-same-length c = search needs
 
 returns : tie.Need-returns
 returns c =
@@ -76,16 +64,5 @@ returns c =
 pub rise-spec : {M : Type 1} → statement M
 rise-spec =
     tie.close
-    (tie.spec
-    mul-n
-    mul-n-2
-    mul-n-3
-    mul-k
-    mul-k-2
-    mul-k-3
-    slice-aggregate-stage
-    slice-relend-prefix-stage
-    slice-aggregate-stage-2
-    stage-requires
-    same-length
-    returns)
+    (tie.spec mul-n mul-n-2 mul-n-3 mul-k mul-k-2 (λ c. search needs) (λ c. search needs) (λ c. search needs)
+    slice-aggregate-stage-2 stage-requires (λ c. search needs) returns)

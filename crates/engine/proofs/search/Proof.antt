@@ -18,14 +18,8 @@ use Rattle.engine.proofs.Accepting.{accepts-given, accepted-small, sear
 use Rattle.engine.proofs.search.Statement.{statement}
 use Rattle.engine.proofs.search.Tie as tie
 
-takes-requires : tie.Need-takes-requires
-takes-requires c κs = search needs
-
 returns : tie.Need-returns
 returns c = searched-not _ _ _ (sym (c .before .takes .ensures) ∙ not-true _ (c .if1 .taken))
-
-power-requires : tie.Need-power-requires
-power-requires c κs = search needs
 
 -- the function's entry, seen from behind the test; the gains are accepted, and N is no more than the greatest
 abbrev start : tie.Else1 → tie.Start
@@ -53,12 +47,6 @@ array-borrow-prefix-word c = fits (c .before)
 
 slice-aggregate-paths : tie.Need-slice-aggregate-paths
 slice-aggregate-paths c = sym (length-take-le _ _ (fits (c .before .before)))
-
-slice-aggregate-paths-2 : tie.Need-slice-aggregate-paths-2
-slice-aggregate-paths-2 c = search needs
-
-slice-aggregate-paths-3 : tie.Need-slice-aggregate-paths-3
-slice-aggregate-paths-3 c = search needs
 
 -- the gains are accepted for the shape that the sizes hold
 accepted : (c : tie.After-sizes-of) → let z = c .sizes-of .result in
@@ -93,14 +81,5 @@ returns-2 c =
 pub search-spec : {M : Type 1} → statement M
 search-spec =
     tie.close
-    (tie.spec
-    takes-requires
-    returns
-    power-requires
-    sizes-of-requires
-    array-borrow-prefix-word
-    slice-aggregate-paths
-    slice-aggregate-paths-2
-    slice-aggregate-paths-3
-    paths-requires
-    returns-2)
+    (tie.spec (λ c. search needs) returns (λ c. search needs) sizes-of-requires array-borrow-prefix-word
+    slice-aggregate-paths (λ c. search needs) (λ c. search needs) paths-requires returns-2)

@@ -11,11 +11,5 @@ use Rattle.lines.proofs.run.Tie as tie
 slice-aggregate-read : tie.Need-slice-aggregate-read
 slice-aggregate-read c = sym (length-replicate {0} {A = ℕ} 2097153 0)
 
-read-requires : tie.Need-read-requires
-read-requires c κs = search needs
-
-returns : tie.Need-returns
-returns c = search needs
-
 pub run-spec : {M : Type 1} → statement M
-run-spec = tie.close (tie.spec slice-aggregate-read read-requires returns)
+run-spec = tie.close (tie.spec slice-aggregate-read (λ c. search needs) (λ c. search needs))

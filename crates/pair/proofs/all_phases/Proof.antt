@@ -26,9 +26,6 @@ Inv-loop h first second u q k₀ k =
 abbrev μ-loop : tie.MeasureT-loop
 μ-loop h first second u q k₀ k = q - k
 
-power-requires : tie.Need-power-requires Inv-loop μ-loop
-power-requires c κs = search needs
-
 abbrev start : tie.After-power Inv-loop μ-loop → tie.Start Inv-loop μ-loop
 start c = c .before .before .before
 
@@ -42,16 +39,10 @@ half-is c = omega (arith, q-is c, phases-half _ (start c .pre .0 .h-least))
 loop-holds : tie.Need-loop-holds Inv-loop μ-loop
 loop-holds c = (omega arith, below-none _)
 
-both-requires : tie.Need-both-requires Inv-loop μ-loop
-both-requires c κs = search needs
-
 add-both : tie.Need-add-both Inv-loop μ-loop
 add-both c =
     let powered = c .before .before .before in
     omega (arith, q-is powered, pow-mono (start powered .pre .0 .h-most))
-
-both-requires-2 : tie.Need-both-requires-2 Inv-loop μ-loop
-both-requires-2 c κs = search needs
 
 returns : tie.Need-returns Inv-loop μ-loop
 returns c =
@@ -61,12 +52,6 @@ returns c =
     (sym
     (allBelow-not _ _ (in-loop .before .loop .k) (in-loop .loop-test .taken)
     (ne-eqb _ _ (λ e. c .if1 .taken (c .before .before .both .ensures ∙ e ∙ sym (c .before .both2 .ensures))))))
-
-add-k : tie.Need-add-k Inv-loop μ-loop
-add-k c = search needs
-
-loop-less : tie.Need-loop-less Inv-loop μ-loop
-loop-less c = search needs
 
 loop-again : tie.Need-loop-again Inv-loop μ-loop
 loop-again c = (
@@ -84,16 +69,5 @@ returns-2 c =
 pub all-phases-spec : {M : Type 1} → statement M
 all-phases-spec =
     tie.close
-    (tie.spec
-    Inv-loop
-    μ-loop
-    power-requires
-    loop-holds
-    both-requires
-    add-both
-    both-requires-2
-    returns
-    add-k
-    loop-less
-    loop-again
-    returns-2)
+    (tie.spec Inv-loop μ-loop (λ c. search needs) loop-holds (λ c. search needs) add-both (λ c. search needs) returns
+    (λ c. search needs) (λ c. search needs) loop-again returns-2)

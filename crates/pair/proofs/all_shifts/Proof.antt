@@ -27,9 +27,6 @@ abbrev μ-loop : tie.MeasureT-loop
 loop-holds : tie.Need-loop-holds Inv-loop μ-loop
 loop-holds c = (omega arith, λ v h l. absurd (omega arith))
 
-all-phases-requires : tie.Need-all-phases-requires Inv-loop μ-loop
-all-phases-requires c κs = search needs
-
 returns : tie.Need-returns Inv-loop μ-loop
 unfolding golayPair
 returns c m e =
@@ -41,12 +38,6 @@ returns c m e =
     (fromOne-not n (phasesAgree (args .h) n (symbolAt (now (args .first))) (symbolAt (now (args .second))))
     (at-loop .loop .u) (c .before .before .loop-test .taken) (at-loop .loop .inv .0)
     (sym (c .before .all-phases .ensures) ∙ not-true _ (c .if1 .taken))))
-
-add-u : tie.Need-add-u Inv-loop μ-loop
-add-u c = search needs
-
-loop-less : tie.Need-loop-less Inv-loop μ-loop
-loop-less c = search needs
 
 loop-again : tie.Need-loop-again Inv-loop μ-loop
 loop-again c = (
@@ -68,13 +59,5 @@ returns-2 c m e =
 pub all-shifts-spec : {M : Type 1} → statement M
 all-shifts-spec =
     tie.close
-    (tie.spec
-    Inv-loop
-    μ-loop
-    loop-holds
-    all-phases-requires
-    returns
-    add-u
-    loop-less
-    loop-again
+    (tie.spec Inv-loop μ-loop loop-holds (λ c. search needs) returns (λ c. search needs) (λ c. search needs) loop-again
     returns-2)

@@ -12,12 +12,6 @@ use Rattle.pair.proofs.Counts.{phaseCount-le}
 use Rattle.pair.proofs.both.Statement.{statement}
 use Rattle.pair.proofs.both.Tie as tie
 
-count-requires : tie.Need-count-requires
-count-requires c κs = search needs
-
-count-requires-2 : tie.Need-count-requires-2
-count-requires-2 c κs = search needs
-
 add-result : tie.Need-add-result
 add-result c =
     let args = c .before .before .before .before .args in
@@ -36,4 +30,4 @@ returns c =
     ap₂ (λ (x y : ℕ). x + y) (c .before .count .ensures) (rw (sym lengths) (c .count2 .ensures))
 
 pub both-spec : {M : Type 1} → statement M
-both-spec = tie.close (tie.spec count-requires count-requires-2 add-result returns)
+both-spec = tie.close (tie.spec (λ c. search needs) (λ c. search needs) add-result returns)

@@ -24,9 +24,6 @@ Inv-loop h word u k q found₀ j₀ found j =
 abbrev μ-loop : tie.MeasureT-loop
 μ-loop h word u k q found₀ j₀ found j = length word - j
 
-power-requires : tie.Need-power-requires Inv-loop μ-loop
-power-requires c κs = search needs
-
 -- q is 2^h, at least 1
 q-is : (c : tie.After-power Inv-loop μ-loop) → c .power .result ≡ phases (c .before .before .args .h)
 q-is c = c .power .ensures ∙ power-is _ (omega (arith, c .before .before .pre .0))
@@ -37,18 +34,6 @@ q-least c = rw (q-is c) (pow-pos _)
 loop-holds : tie.Need-loop-holds Inv-loop μ-loop
 loop-holds c = (omega arith, omega arith, phaseCount-none _ _ _ _)
 
-sub-minus : tie.Need-sub-minus Inv-loop μ-loop
-sub-minus c = search needs
-
-shared-slice-read-minus : tie.Need-shared-slice-read-minus Inv-loop μ-loop
-shared-slice-read-minus c = search needs
-
-shared-slice-read-minus-2 : tie.Need-shared-slice-read-minus-2 Inv-loop μ-loop
-shared-slice-read-minus-2 c = search needs
-
-minus-requires : tie.Need-minus-requires Inv-loop μ-loop
-minus-requires c κs = search needs
-
 rem-if1 : tie.Need-rem-if1 Inv-loop μ-loop
 rem-if1 c = omega (arith, q-least (c .before .before .before .before .before))
 
@@ -57,12 +42,6 @@ add-found c =
     let loop = c .before .before .before .before .before .loop in
     let few : loop .found ≤ loop .j = rw (loop .inv .2) (phaseCount-le _ _ _ _ _) in
     omega arith
-
-add-j : tie.Need-add-j Inv-loop μ-loop
-add-j c = search needs
-
-loop-less : tie.Need-loop-less Inv-loop μ-loop
-loop-less c = search needs
 
 loop-again : tie.Need-loop-again Inv-loop μ-loop
 loop-again c =
@@ -86,18 +65,5 @@ returns c =
 pub count-spec : {M : Type 1} → statement M
 count-spec =
     tie.close
-    (tie.spec
-    Inv-loop
-    μ-loop
-    power-requires
-    loop-holds
-    sub-minus
-    shared-slice-read-minus
-    shared-slice-read-minus-2
-    minus-requires
-    rem-if1
-    add-found
-    add-j
-    loop-less
-    loop-again
-    returns)
+    (tie.spec Inv-loop μ-loop (λ c. search needs) loop-holds (λ c. search needs) (λ c. search needs) (λ c. search needs)
+    (λ c. search needs) rem-if1 add-found (λ c. search needs) (λ c. search needs) loop-again returns)

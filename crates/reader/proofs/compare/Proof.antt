@@ -7,15 +7,6 @@ use Rattle.encoder.proofs.SentLaws.{sent-word}
 use Rattle.reader.proofs.compare.Statement.{statement}
 use Rattle.reader.proofs.compare.Tie as tie
 
-encode-requires : tie.Need-encode-requires
-encode-requires c κs = search needs
-
-same-requires : tie.Need-same-requires
-same-requires c κs = search needs
-
-same-length : tie.Need-same-length
-same-length c = search needs
-
 -- the call of encode, seen from the comparison, and the function's entry, seen from there
 abbrev at-encode : tie.After-same → tie.After-encode
 at-encode c = c .before .before .before .before
@@ -33,4 +24,4 @@ returns c =
     (λ t. sym e ∙ c .same .ensures .0 t, λ q. c .same .ensures .1 (e ∙ q))
 
 pub compare-spec : {M : Type 1} → statement M
-compare-spec = tie.close (tie.spec encode-requires same-requires same-length returns)
+compare-spec = tie.close (tie.spec (λ c. search needs) (λ c. search needs) (λ c. search needs) returns)

@@ -33,8 +33,6 @@ compare-requires : tie.Need-compare-requires
 compare-requires c κs =
     (c .before .before .pre .0, (c .before .before .pre .1, length-take-le _ zeros (fits (c .before))))
 
-returns : tie.Need-returns
-returns c = search needs
-
 pub is-word-spec : {M : Type 1} → statement M
-is-word-spec = tie.close (tie.spec array-borrow-prefix-buffer slice-aggregate-compare compare-requires returns)
+is-word-spec =
+    tie.close (tie.spec array-borrow-prefix-buffer slice-aggregate-compare compare-requires (λ c. search needs))

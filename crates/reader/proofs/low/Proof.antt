@@ -32,9 +32,6 @@ start c = c .before .before
 abbrev at-loop : tie.After-power2 Inv-loop μ-loop → tie.At-loop Inv-loop μ-loop
 at-loop c = c .before .before
 
-power-requires : tie.Need-power-requires Inv-loop μ-loop
-power-requires c κs = search needs
-
 -- q is 2^h, at most the most phases
 ranged : (c : tie.After-power Inv-loop μ-loop) → InRange (start c .args .h) (start c .args .m)
 ranged c = inShape-range _ _ (start c .pre .shape)
@@ -81,12 +78,6 @@ loop-holds c = (search needs, refl)
 add-k : tie.Need-add-k Inv-loop μ-loop
 add-k c = omega (arith, c .loop-test .taken, ranged (c .before .before) .m-most)
 
-sub-power : tie.Need-sub-power Inv-loop μ-loop
-sub-power c = search needs
-
-power-requires-2 : tie.Need-power-requires-2 Inv-loop μ-loop
-power-requires-2 c κs = search needs
-
 mul-number : tie.Need-mul-number Inv-loop μ-loop
 mul-number c = omega (arith, small (at-loop c))
 
@@ -95,9 +86,6 @@ shared-slice-read-minus c = place-lt (c .before)
 
 shared-slice-read-minus-2 : tie.Need-shared-slice-read-minus-2 Inv-loop μ-loop
 shared-slice-read-minus-2 c = first-in (at-loop (c .before .before) .before)
-
-minus-requires : tie.Need-minus-requires Inv-loop μ-loop
-minus-requires c κs = search needs
 
 -- the place of c_k, seen from where it has been read
 abbrev at-place : tie.After-minus Inv-loop μ-loop → tie.After-power2 Inv-loop μ-loop
@@ -144,9 +132,6 @@ mul-result c = omega (arith, small (c .before))
 shared-slice-read-wide : tie.Need-shared-slice-read-wide Inv-loop μ-loop
 shared-slice-read-wide c = first-in (c .before .before .before)
 
-wide-requires : tie.Need-wide-requires Inv-loop μ-loop
-wide-requires c κs = search needs
-
 add-result : tie.Need-add-result Inv-loop μ-loop
 add-result c =
     let head = c .before .before .before in
@@ -164,6 +149,6 @@ returns c =
 pub low-spec : {M : Type 1} → statement M
 low-spec =
     tie.close
-    (tie.spec Inv-loop μ-loop power-requires loop-holds add-k sub-power power-requires-2 mul-number
-    shared-slice-read-minus shared-slice-read-minus-2 minus-requires add-number loop-less loop-again mul-result
-    shared-slice-read-wide wide-requires add-result returns)
+    (tie.spec Inv-loop μ-loop (λ c. search needs) loop-holds add-k (λ c. search needs) (λ c. search needs) mul-number
+    shared-slice-read-minus shared-slice-read-minus-2 (λ c. search needs) add-number loop-less loop-again mul-result
+    shared-slice-read-wide (λ c. search needs) add-result returns)

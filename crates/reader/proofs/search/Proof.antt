@@ -53,18 +53,6 @@ add-power c = omega (arith, ranged c .m-most)
 mul-power : tie.Need-mul-power Inv-loop μ-loop
 mul-power c = omega (arith, coefficientBits-le (c .before .args .h) (c .before .args .m) (ranged c))
 
-power-requires : tie.Need-power-requires Inv-loop μ-loop
-power-requires c κs = search needs
-
-path-bits-requires : tie.Need-path-bits-requires Inv-loop μ-loop
-path-bits-requires c κs = search needs
-
-power-requires-2 : tie.Need-power-requires-2 Inv-loop μ-loop
-power-requires-2 c κs = search needs
-
-low-requires : tie.Need-low-requires Inv-loop μ-loop
-low-requires c κs = search needs
-
 -- the step from one path to the next, and the number of paths in use
 step-is : (c : tie.After-power Inv-loop μ-loop) → let args = c .before .before .args in
     c .power .result ≡ phases (args .h) ^ (args .m + 1)
@@ -78,9 +66,6 @@ uses-is c =
 
 loop-holds : tie.Need-loop-holds Inv-loop μ-loop
 loop-holds c = (search needs, c .low .ensures ∙ labelWith-zero _ _ _, below-none _)
-
-message-of-requires : tie.Need-message-of-requires Inv-loop μ-loop
-message-of-requires c κs = search needs
 
 -- the label that is tried with path n
 abbrev labelAt : tie.At-loop Inv-loop μ-loop → ℕ
@@ -144,12 +129,6 @@ add-label c =
     let bits = messages-most (args .h) (args .m) (ranged (step .before)) in
     omega (arith, turn .before .loop .inv .1, label-lt turn, bits, step-le step)
 
-add-n : tie.Need-add-n Inv-loop μ-loop
-add-n c = search needs
-
-loop-less : tie.Need-loop-less Inv-loop μ-loop
-loop-less c = search needs
-
 -- what a miss tells
 misses : (c : tie.Else1 Inv-loop μ-loop) → let args = start (at-loop (c .before)) .args in
     wordOf (args .h) (args .m) (messageOf (args .h) (args .m) (labelAt (at-loop (c .before)))) ≡ now (args .word) → ⊥
@@ -176,5 +155,6 @@ returns-2 c =
 pub search-spec : {M : Type 1} → statement M
 search-spec =
     tie.close
-    (tie.spec Inv-loop μ-loop add-power mul-power power-requires path-bits-requires power-requires-2 low-requires
-    loop-holds message-of-requires is-word-requires returns add-label add-n loop-less loop-again returns-2)
+    (tie.spec Inv-loop μ-loop add-power mul-power (λ c. search needs) (λ c. search needs) (λ c. search needs)
+    (λ c. search needs) loop-holds (λ c. search needs) is-word-requires returns add-label (λ c. search needs)
+    (λ c. search needs) loop-again returns-2)

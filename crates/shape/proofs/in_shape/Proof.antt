@@ -5,9 +5,6 @@ use borrow.Author.Tests.{le-leb, lt-leb}
 use Rattle.shape.proofs.in_shape.Statement.{statement}
 use Rattle.shape.proofs.in_shape.Tie as tie
 
-in-m-requires : tie.Need-in-m-requires
-in-m-requires c κs = search needs
-
 returns : tie.Need-returns
 returns c =
     simp (le-leb 1 _ (c .before .before .if1 .taken), le-leb _ _ (c .before .if2 .taken)) (c .in-m .ensures)
@@ -19,4 +16,4 @@ returns-3 : tie.Need-returns-3
 returns-3 c = simp (lt-leb 1 _ (c .if1 .left))
 
 pub in-shape-spec : {M : Type 1} → statement M
-in-shape-spec = tie.close (tie.spec in-m-requires returns returns-2 returns-3)
+in-shape-spec = tie.close (tie.spec (λ c. search needs) returns returns-2 returns-3)

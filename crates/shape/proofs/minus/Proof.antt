@@ -29,21 +29,6 @@ module _ (q a b x y : ℕ) (is-a : x ≡ a) (is-least : y ≡ min q b) where
       let e : a + (q - b) ≡ x = omega arith in
       rw (e, z) (sym (mod-zero x))
 
-wide-requires : tie.Need-wide-requires
-wide-requires c κs = search needs
-
-wide-requires-2 : tie.Need-wide-requires-2
-wide-requires-2 c κs = search needs
-
-lesser-requires : tie.Need-lesser-requires
-lesser-requires c κs = search needs
-
-sub-result : tie.Need-sub-result
-sub-result c = search needs
-
-add-result : tie.Need-add-result
-add-result c = search needs
-
 -- what is taken away: b, at most q
 abbrev start : tie.After-lesser → tie.Start
 start c = c .before .before .before
@@ -71,14 +56,11 @@ returns-3 c =
     let at = c .before .before .before in
     minus-none _ _ _ _ _ (at .before .before .wide .ensures) (least at) (c .if3 .taken)
 
-rem-result : tie.Need-rem-result
-rem-result c = search needs
-
 returns-4 : tie.Need-returns-4
 returns-4 c = left (c .before .before)
 
 pub minus-spec : {M : Type 1} → statement M
 minus-spec =
     tie.close
-    (tie.spec wide-requires wide-requires-2 lesser-requires sub-result add-result returns returns-2 returns-3 rem-result
-    returns-4)
+    (tie.spec (λ c. search needs) (λ c. search needs) (λ c. search needs) (λ c. search needs) (λ c. search needs)
+    returns returns-2 returns-3 (λ c. search needs) returns-4)

@@ -15,18 +15,6 @@ returns c =
     let e : c .before .args .m - 2 ≡ 0 = omega (arith, c .if1 .taken) in
     sym (ap (λ (i : ℕ). getD pathWidths i 0) e)
 
-cast-at : tie.Need-cast-at
-cast-at c = search needs
-
-sub-if2 : tie.Need-sub-if2
-sub-if2 c = search needs
-
-mul-result : tie.Need-mul-result
-mul-result c = search needs
-
-array-read-result : tie.Need-array-read-result
-array-read-result c = search needs
-
 returns-2 : tie.Need-returns-2
 unfolding pathBits
 returns-2 c = refl
@@ -36,4 +24,7 @@ unfolding pathBits
 returns-3 c = sym (List·getD-eq-default pathWidths 0 (c .if2 .left))
 
 pub path-bits-spec : {M : Type 1} → statement M
-path-bits-spec = tie.close (tie.spec returns cast-at sub-if2 mul-result array-read-result returns-2 returns-3)
+path-bits-spec =
+    tie.close
+    (tie.spec returns (λ c. search needs) (λ c. search needs) (λ c. search needs) (λ c. search needs) returns-2
+    returns-3)

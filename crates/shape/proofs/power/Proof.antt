@@ -10,9 +10,6 @@ use borrow.Author.Tests.{lt-ltb, le-ltb}
 use Rattle.shape.proofs.power.Statement.{statement}
 use Rattle.shape.proofs.power.Tie as tie
 
-shl-result : tie.Need-shl-result
-shl-result c = search needs
-
 returns : tie.Need-returns
 returns c =
     simp (lt-ltb _ _ (c .if1 .taken))
@@ -22,4 +19,4 @@ returns-2 : tie.Need-returns-2
 returns-2 c = simp (le-ltb _ _ (c .if1 .left))
 
 pub power-spec : {M : Type 1} → statement M
-power-spec = tie.close (tie.spec shl-result returns returns-2)
+power-spec = tie.close (tie.spec (λ c. search needs) returns returns-2)

@@ -5,24 +5,6 @@ use Rattle.sharqudel.proofs.OutLaws.{checkedOut-given, checkedOut-refus
 use Rattle.sharqudel.proofs.sharqudel_check.Statement.{statement}
 use Rattle.sharqudel.proofs.sharqudel_check.Tie as tie
 
-check-requires : tie.Need-check-requires
-check-requires c κs = search needs
-
-enum-told : tie.Need-enum-told
-enum-told c = search needs
-
-enum-told-2 : tie.Need-enum-told-2
-enum-told-2 c = search needs
-
-enum-known-why : tie.Need-enum-known-why
-enum-known-why c = search needs
-
-name-requires : tie.Need-name-requires
-name-requires c κs = search needs
-
-tell-requires : tie.Need-tell-requires
-tell-requires c κs = search needs
-
 returns : tie.Need-returns
 returns c = checkedOut-given (rw (c .enum-told .given .1) at (c .before .before .check .ensures))
 
@@ -39,13 +21,5 @@ returns-3 c =
 pub sharqudel-check-spec : {M : Type 1} → statement M
 sharqudel-check-spec =
     tie.close
-    (tie.spec
-    check-requires
-    enum-told
-    enum-told-2
-    enum-known-why
-    name-requires
-    tell-requires
-    returns
-    returns-2
-    returns-3)
+    (tie.spec (λ c. search needs) (λ c. search needs) (λ c. search needs) (λ c. search needs) (λ c. search needs)
+    (λ c. search needs) returns returns-2 returns-3)

@@ -5,18 +5,6 @@ use Rattle.sharqudel.proofs.OutLaws.{hardOut-given, hardOut-refused}
 use Rattle.sharqudel.proofs.sharqudel_hard.Statement.{statement}
 use Rattle.sharqudel.proofs.sharqudel_hard.Tie as tie
 
-hard-requires : tie.Need-hard-requires
-hard-requires c κs = search needs
-
-enum-known-found : tie.Need-enum-known-found
-enum-known-found c = search needs
-
-enum-known-why : tie.Need-enum-known-why
-enum-known-why c = search needs
-
-tell-requires : tie.Need-tell-requires
-tell-requires c κs = search needs
-
 returns : tie.Need-returns
 returns c =
     let arm = c .before .before in
@@ -31,4 +19,4 @@ returns-2 c =
 pub sharqudel-hard-spec : {M : Type 1} → statement M
 sharqudel-hard-spec =
     tie.close
-    (tie.spec hard-requires enum-known-found enum-known-why tell-requires returns returns-2)
+    (tie.spec (λ c. search needs) (λ c. search needs) (λ c. search needs) (λ c. search needs) returns returns-2)

@@ -5,18 +5,6 @@ use Rattle.sharqudel.proofs.OutLaws.{readOut-given, readOut-refused}
 use Rattle.sharqudel.proofs.sharqudel_read.Statement.{statement}
 use Rattle.sharqudel.proofs.sharqudel_read.Tie as tie
 
-read-requires : tie.Need-read-requires
-read-requires c κs = search needs
-
-enum-known-found : tie.Need-enum-known-found
-enum-known-found c = search needs
-
-enum-known-why : tie.Need-enum-known-why
-enum-known-why c = search needs
-
-tell-requires : tie.Need-tell-requires
-tell-requires c κs = search needs
-
 returns : tie.Need-returns
 returns c =
     let arm = c .before in
@@ -31,4 +19,4 @@ returns-2 c =
 pub sharqudel-read-spec : {M : Type 1} → statement M
 sharqudel-read-spec =
     tie.close
-    (tie.spec read-requires enum-known-found enum-known-why tell-requires returns returns-2)
+    (tie.spec (λ c. search needs) (λ c. search needs) (λ c. search needs) (λ c. search needs) returns returns-2)

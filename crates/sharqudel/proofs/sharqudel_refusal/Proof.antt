@@ -5,18 +5,6 @@ use Rattle.sharqudel.proofs.OutLaws.{judgedOut-allowed, judgedOut-refus
 use Rattle.sharqudel.proofs.sharqudel_refusal.Statement.{statement}
 use Rattle.sharqudel.proofs.sharqudel_refusal.Tie as tie
 
-transform-requires : tie.Need-transform-requires
-transform-requires c κs = search needs
-
-enum-told : tie.Need-enum-told
-enum-told c = search needs
-
-enum-known-why : tie.Need-enum-known-why
-enum-known-why c = search needs
-
-tell-requires : tie.Need-tell-requires
-tell-requires c κs = search needs
-
 returns : tie.Need-returns
 returns c = judgedOut-allowed (rw (c .enum-told .given .1) at (c .before .before .transform .ensures))
 
@@ -28,4 +16,5 @@ returns-2 c =
 
 pub sharqudel-refusal-spec : {M : Type 1} → statement M
 sharqudel-refusal-spec =
-    tie.close (tie.spec transform-requires enum-told enum-known-why tell-requires returns returns-2)
+    tie.close
+    (tie.spec (λ c. search needs) (λ c. search needs) (λ c. search needs) (λ c. search needs) returns returns-2)

@@ -8,18 +8,6 @@ use Rattle.sharqudel.proofs.OutLaws.{softOut-given, softOut-refused}
 use Rattle.sharqudel.proofs.sharqudel_soft.Statement.{statement}
 use Rattle.sharqudel.proofs.sharqudel_soft.Tie as tie
 
-soft-requires : tie.Need-soft-requires
-soft-requires c κs = search needs
-
-enum-known-found : tie.Need-enum-known-found
-enum-known-found c = search needs
-
-enum-known-why : tie.Need-enum-known-why
-enum-known-why c = search needs
-
-number-requires : tie.Need-number-requires
-number-requires c κs = search needs
-
 -- the correlation comes from an i32, so the cell holds it whole
 returns : tie.Need-returns
 returns c =
@@ -38,4 +26,4 @@ returns-2 c =
 pub sharqudel-soft-spec : {M : Type 1} → statement M
 sharqudel-soft-spec =
     tie.close
-    (tie.spec soft-requires enum-known-found enum-known-why number-requires returns returns-2)
+    (tie.spec (λ c. search needs) (λ c. search needs) (λ c. search needs) (λ c. search needs) returns returns-2)

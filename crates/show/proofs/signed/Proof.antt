@@ -41,12 +41,6 @@ positive-casts (negsuc n) f e = absurd (false≢true (sym e))
 cast-wide : tie.Need-cast-wide
 cast-wide c = rw (toZ-ofZ w32 (c .args .x) (c .fits .x)) (wide (c .args .x) (c .fits .x))
 
-slice-aggregate-say : tie.Need-slice-aggregate-say
-slice-aggregate-say c = search needs
-
-say-requires : tie.Need-say-requires
-say-requires c κs = search needs
-
 sub-number : tie.Need-sub-number
 sub-number c =
     let start = c .before .before .before in
@@ -60,12 +54,6 @@ cast-number c =
     rw (wide-is x f, toZ-ofZ w64 (pos 0 -ℤ x) (negative-fits x f))
     (negative-casts x f (rw (wide-is x f) at (c .before .before .if1 .taken)))
 
-number-requires : tie.Need-number-requires
-number-requires c κs = search needs
-
-returns : tie.Need-returns
-returns c = search needs
-
 cast-number-2 : tie.Need-cast-number-2
 cast-number-2 c =
     let start = c .before in
@@ -73,23 +61,8 @@ cast-number-2 c =
     (positive-casts (start .args .x) (start .fits .x)
     (rw (wide-is (start .args .x) (start .fits .x)) at (c .if1 .left)))
 
-number-requires-2 : tie.Need-number-requires-2
-number-requires-2 c κs = search needs
-
-returns-2 : tie.Need-returns-2
-returns-2 c = search needs
-
 pub signed-spec : {M : Type 1} → statement M
 signed-spec =
     tie.close
-    (tie.spec
-    cast-wide
-    slice-aggregate-say
-    say-requires
-    sub-number
-    cast-number
-    number-requires
-    cast-number-2
-    number-requires-2
-    returns
-    returns-2)
+    (tie.spec cast-wide (λ c. search needs) (λ c. search needs) sub-number cast-number (λ c. search needs) cast-number-2
+    (λ c. search needs) (λ c. search needs) (λ c. search needs))

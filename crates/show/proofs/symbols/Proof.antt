@@ -13,37 +13,8 @@ Inv-loop word i₀ i = i ≤ length word
 abbrev μ-loop : tie.MeasureT-loop
 μ-loop word i₀ i = length word - i
 
-loop-holds : tie.Need-loop-holds Inv-loop μ-loop
-loop-holds c = search needs
-
-shared-slice-read-symbol : tie.Need-shared-slice-read-symbol Inv-loop μ-loop
-shared-slice-read-symbol c = search needs
-
-symbol-requires : tie.Need-symbol-requires Inv-loop μ-loop
-symbol-requires c κs = search needs
-
-add-i : tie.Need-add-i Inv-loop μ-loop
-add-i c = search needs
-
-loop-less : tie.Need-loop-less Inv-loop μ-loop
-loop-less c = search needs
-
-loop-again : tie.Need-loop-again Inv-loop μ-loop
-loop-again c = search needs
-
-returns : tie.Need-returns Inv-loop μ-loop
-returns c = search needs
-
 pub symbols-spec : {M : Type 1} → statement M
 symbols-spec =
     tie.close
-    (tie.spec
-    Inv-loop
-    μ-loop
-    loop-holds
-    shared-slice-read-symbol
-    symbol-requires
-    add-i
-    loop-less
-    loop-again
-    returns)
+    (tie.spec Inv-loop μ-loop (λ c. search needs) (λ c. search needs) (λ c. search needs) (λ c. search needs)
+    (λ c. search needs) (λ c. search needs) (λ c. search needs))

@@ -16,11 +16,5 @@ wide z f = record { sfits = omega (arith, f .sfits) }
 cast-spaced : tie.Need-cast-spaced
 cast-spaced c = rw (toZ-ofZ w16 (c .args .x) (c .fits .x)) (wide (c .args .x) (c .fits .x))
 
-spaced-requires : tie.Need-spaced-requires
-spaced-requires c κs = search needs
-
-returns : tie.Need-returns
-returns c = search needs
-
 pub value-spec : {M : Type 1} → statement M
-value-spec = tie.close (tie.spec cast-spaced spaced-requires returns)
+value-spec = tie.close (tie.spec cast-spaced (λ c. search needs) (λ c. search needs))

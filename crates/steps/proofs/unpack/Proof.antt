@@ -9,7 +9,7 @@ use borrow.Author.Needs.{needs}
 use Rattle.range.specs.Below.{filled}
 use Rattle.range.proofs.Filled.{filled-zero, filled-turn}
 use Rattle.rules.specs.Shape.{greatestM}
-use Rattle.steps.specs.Steps.{stepIn, unpacked}
+use Rattle.steps.specs.PathSteps.{stepIn, unpacked}
 use Rattle.steps.proofs.unpack.Statement.{statement}
 use Rattle.steps.proofs.unpack.Tie as tie
 

@@ -27,33 +27,12 @@ loop-holds : tie.Need-loop-holds Inv-loop μ-loop
 unfolding seedAt
 loop-holds c = (filling-none _ _ 0 _ (omega arith), refl)
 
-next-requires : tie.Need-next-requires Inv-loop μ-loop
-next-requires c κs = search needs
-
-tone-requires : tie.Need-tone-requires Inv-loop μ-loop
-tone-requires c κs = search needs
-
 moved-requires : tie.Need-moved-requires Inv-loop μ-loop
 moved-requires c κs = rw (c .tone .ensures) (tone-le _ _ _ _)
 
 -- the loop's head, seen from past the calls of a turn
 abbrev at-loop : tie.After-lowered Inv-loop μ-loop → tie.At-loop Inv-loop μ-loop
 at-loop c = c .before .before .before .before .before
-
-lowered-requires : tie.Need-lowered-requires Inv-loop μ-loop
-lowered-requires c κs = search needs
-
-mul-t11 : tie.Need-mul-t11 Inv-loop μ-loop
-mul-t11 c = search needs
-
-slice-set-from-y : tie.Need-slice-set-from-y Inv-loop μ-loop
-slice-set-from-y c = search needs
-
-add-e : tie.Need-add-e Inv-loop μ-loop
-add-e c = search needs
-
-loop-less : tie.Need-loop-less Inv-loop μ-loop
-loop-less c = search needs
 
 -- the number that the value is drawn from, and the value
 drawn : (c : tie.After-lowered Inv-loop μ-loop) → let head = at-loop c in
@@ -70,9 +49,6 @@ loop-again c =
       drawn c,
     )
 
-same-length : tie.Need-same-length Inv-loop μ-loop
-same-length c = search needs
-
 returns : tie.Need-returns Inv-loop μ-loop
 returns c =
     let head = c .before in
@@ -87,5 +63,6 @@ returns c =
 pub hear-spec : {M : Type 1} → statement M
 hear-spec =
     tie.close
-    (tie.spec Inv-loop μ-loop loop-holds next-requires tone-requires moved-requires lowered-requires mul-t11
-    slice-set-from-y add-e loop-less loop-again same-length returns)
+    (tie.spec Inv-loop μ-loop loop-holds (λ c. search needs) (λ c. search needs) moved-requires (λ c. search needs)
+    (λ c. search needs) (λ c. search needs) (λ c. search needs) (λ c. search needs) loop-again (λ c. search needs)
+    returns)

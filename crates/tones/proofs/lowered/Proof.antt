@@ -34,9 +34,6 @@ returns : tie.Need-returns
 unfolding lowered
 returns c = let e : min (c .before .args .value) 65535 ≡ 65535 = omega (arith, c .if1 .taken) in rw e
 
-cast-result : tie.Need-cast-result
-cast-result c = search needs
-
 sub-result : tie.Need-sub-result
 sub-result c =
     let v = c .before .args .value in
@@ -56,4 +53,4 @@ returns-2 c =
     (toZ-ofZ w16 (pos v -ℤ pos 32768) (fits-16 v (below c)))
 
 pub lowered-spec : {M : Type 1} → statement M
-lowered-spec = tie.close (tie.spec returns cast-result sub-result cast-result-2 returns-2)
+lowered-spec = tie.close (tie.spec returns (λ c. search needs) sub-result cast-result-2 returns-2)

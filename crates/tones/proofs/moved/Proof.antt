@@ -8,18 +8,6 @@ use Rattle.tones.specs.Tones.{moved}
 use Rattle.tones.proofs.moved.Statement.{statement}
 use Rattle.tones.proofs.moved.Tie as tie
 
-bounded-requires : tie.Need-bounded-requires
-bounded-requires c κs = search needs
-
-mul-sum : tie.Need-mul-sum
-mul-sum c = search needs
-
-add-sum : tie.Need-add-sum
-add-sum c = search needs
-
-rem-sum : tie.Need-rem-sum
-rem-sum c = search needs
-
 add-sum-2 : tie.Need-add-sum-2
 add-sum-2 c =
     let n = 2 * c .bounded .result + 1 in
@@ -35,4 +23,6 @@ returns-2 c = rw (← c .before .bounded .ensures)
 
 pub moved-spec : {M : Type 1} → statement M
 moved-spec =
-    tie.close (tie.spec bounded-requires mul-sum add-sum rem-sum add-sum-2 returns returns-2)
+    tie.close
+    (tie.spec (λ c. search needs) (λ c. search needs) (λ c. search needs) (λ c. search needs) add-sum-2 returns
+    returns-2)

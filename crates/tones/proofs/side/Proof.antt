@@ -5,20 +5,11 @@ use borrow.Author.Needs.{needs}
 use Rattle.tones.proofs.side.Statement.{statement}
 use Rattle.tones.proofs.side.Tie as tie
 
-bounded-requires : tie.Need-bounded-requires
-bounded-requires c κs = search needs
-
-add-result : tie.Need-add-result
-add-result c = search needs
-
 returns : tie.Need-returns
 returns c = rw (c .if1 .taken) (omega (arith, c .before .bounded .ensures))
-
-sub-result : tie.Need-sub-result
-sub-result c = search needs
 
 returns-2 : tie.Need-returns-2
 returns-2 c = rw (c .if1 .left) (omega (arith, c .before .bounded .ensures))
 
 pub side-spec : {M : Type 1} → statement M
-side-spec = tie.close (tie.spec bounded-requires add-result returns sub-result returns-2)
+side-spec = tie.close (tie.spec (λ c. search needs) (λ c. search needs) returns (λ c. search needs) returns-2)

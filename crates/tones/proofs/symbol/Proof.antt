@@ -7,17 +7,8 @@ use borrow.Author.Needs.{needs}
 use Rattle.tones.proofs.symbol.Statement.{statement}
 use Rattle.tones.proofs.symbol.Tie as tie
 
-shared-slice-read-wide : tie.Need-shared-slice-read-wide
-shared-slice-read-wide c = search needs
-
-wide-requires : tie.Need-wide-requires
-wide-requires c κs = search needs
-
-returns : tie.Need-returns
-returns c = search needs
-
 returns-2 : tie.Need-returns-2
 returns-2 c = sym (List·getD-eq-default (now (c .before .before .args .word)) 0 (c .if1 .left))
 
 pub symbol-spec : {M : Type 1} → statement M
-symbol-spec = tie.close (tie.spec shared-slice-read-wide wide-requires returns returns-2)
+symbol-spec = tie.close (tie.spec (λ c. search needs) (λ c. search needs) (λ c. search needs) returns-2)

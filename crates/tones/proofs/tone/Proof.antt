@@ -27,27 +27,15 @@ module _ (a : ℕ) (four : Bool) (w : List ℕ) (e s : ℕ) where
     unfolding tone
     tone-part p = rw (f, ← q, eq-eqb (s % 2) (e % 2) p)
 
-symbol-requires : tie.Need-symbol-requires
-symbol-requires c κs = search needs
-
-side-requires : tie.Need-side-requires
-side-requires c κs = search needs
-
 returns : tie.Need-returns
 returns c =
     let at = c .before in
     c .side .ensures ∙ tone-two _ _ _ _ _ (not-true _ (at .before .if1 .taken)) (at .symbol .ensures)
 
-symbol-requires-2 : tie.Need-symbol-requires-2
-symbol-requires-2 c κs = search needs
-
 returns-2 : tie.Need-returns-2
 returns-2 c =
     let at = c .before in
     tone-none _ _ _ _ _ (not-false _ (at .before .if1 .left)) (at .symbol2 .ensures) (c .if2 .taken)
-
-side-requires-2 : tie.Need-side-requires-2
-side-requires-2 c κs = search needs
 
 returns-3 : tie.Need-returns-3
 returns-3 c =
@@ -58,4 +46,5 @@ returns-3 c =
 pub tone-spec : {M : Type 1} → statement M
 tone-spec =
     tie.close
-    (tie.spec symbol-requires side-requires returns symbol-requires-2 returns-2 side-requires-2 returns-3)
+    (tie.spec (λ c. search needs) (λ c. search needs) returns (λ c. search needs) returns-2 (λ c. search needs)
+    returns-3)

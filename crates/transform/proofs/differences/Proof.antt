@@ -9,7 +9,7 @@ use denote.Ref.{now}
 use Rattle.range.specs.Signed.{entry}
 use Rattle.range.proofs.SumsSigned.{mag-sub}
 use Rattle.range.proofs.Fills.{Filling, filling-none, filling-turn, filling-end}
-use Rattle.transform.specs.Steps.{addable, butterfly}
+use Rattle.transform.specs.Butterflies.{addable, butterfly}
 use Rattle.transform.proofs.Bits.{bits-back}
 use Rattle.transform.proofs.Halves.{butterfly-second}
 use Rattle.transform.proofs.differences.Statement.{statement}
@@ -89,19 +89,5 @@ returns c = filling-end (c .before .loop .inv) (c .loop-test .left)
 pub differences-spec : {M : Type 1} → statement M
 differences-spec =
     tie.close
-    (tie.spec
-    Inv-loop
-    μ-loop
-    add-end
-    add-end-2
-    add-i
-    loop-holds
-    sub-less
-    less-requires
-    mul-t11
-    slice-set-from-to
-    add-i-2
-    loop-less
-    loop-again
-    same-length
-    returns)
+    (tie.spec Inv-loop μ-loop add-end add-end-2 add-i loop-holds sub-less less-requires mul-t11 slice-set-from-to
+    add-i-2 loop-less loop-again same-length returns)

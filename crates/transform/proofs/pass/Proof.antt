@@ -11,7 +11,7 @@ use denote.Ref.{now}
 use Rattle.range.specs.Below.{Fills}
 use Rattle.range.specs.Signed.{entry}
 use Rattle.range.proofs.Fills.{fills-none, fills-trans, fills-end}
-use Rattle.transform.specs.Steps.{butterfly, Start, Block}
+use Rattle.transform.specs.Butterflies.{butterfly, Start, Block}
 use Rattle.transform.proofs.Halves.{start-zero, start-next, start-le}
 use Rattle.transform.proofs.pass.Statement.{statement}
 use Rattle.transform.proofs.pass.Tie as tie
@@ -89,15 +89,5 @@ returns c =
 pub pass-spec : {M : Type 1} → statement M
 pass-spec =
     tie.close
-    (tie.spec
-    Inv-loop
-    μ-loop
-    loop-holds
-    sums-requires
-    differences-requires
-    add-p
-    add-p-2
-    loop-less
-    loop-again
-    same-length
-    returns)
+    (tie.spec Inv-loop μ-loop loop-holds sums-requires differences-requires add-p add-p-2 loop-less loop-again
+    same-length returns)

@@ -57,9 +57,6 @@ stage-requires-2 c κs =
       omega (arith, t .first, size, between-first _ _ _ _ t size _ _ _ _ (at .inv)),
     )
 
-add-k : tie.Need-add-k Inv-loop μ-loop
-add-k c = search needs
-
 loop-less : tie.Need-loop-less Inv-loop μ-loop
 loop-less c = omega (arith, c .before .loop-test .taken)
 
@@ -96,15 +93,5 @@ returns c = between-all (c .before .loop .inv) (c .loop-test .left)
 pub rounds-spec : {M : Type 1} → statement M
 rounds-spec =
     tie.close
-    (tie.spec
-    Inv-loop
-    μ-loop
-    loop-holds
-    stage-requires
-    stage-requires-2
-    add-k
-    loop-less
-    loop-again
-    same-length
-    same-length-2
-    returns)
+    (tie.spec Inv-loop μ-loop loop-holds stage-requires stage-requires-2 (λ c. search needs) loop-less loop-again
+    same-length same-length-2 returns)

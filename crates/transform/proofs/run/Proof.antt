@@ -12,32 +12,14 @@ use Rattle.rules.specs.Refusal.{transformRefusal}
 use Rattle.rules.proofs.RefusalLaws.{transform-taken}
 use Rattle.shape.proofs.Powers.{power-carriers-of-inM}
 use Rattle.kinds.specs.Refusals.{judgedTold}
-use Rattle.transform.proofs.Parts.{ran-refused, ran-allowed}
+use Rattle.transform.proofs.AreasAfter.{ran-refused, ran-allowed}
 use Rattle.transform.proofs.run.Statement.{statement}
 use Rattle.transform.proofs.run.Tie as tie
-
-transform-requires : tie.Need-transform-requires
-transform-requires c κs = search needs
-
-enum-told : tie.Need-enum-told
-enum-told c = search needs
-
-same-length : tie.Need-same-length
-same-length c = search needs
-
-same-length-2 : tie.Need-same-length-2
-same-length-2 c = search needs
 
 returns : tie.Need-returns
 returns c =
     let asked = c .before .before .transform in
     ran-refused _ _ _ _ _ (sym (asked .ensures) ∙ ap judgedTold (c .enum-told .given .1))
-
-enum-told-2 : tie.Need-enum-told-2
-enum-told-2 c = search needs
-
-power-requires : tie.Need-power-requires
-power-requires c κs = search needs
 
 -- the function's entry, seen from past the question; nothing is refused there
 abbrev start : tie.After-enum-told2 → tie.Start
@@ -59,12 +41,6 @@ rounds-requires c κs =
     let at-power = c .before .before in
     (granted (at-power .before), n-is at-power)
 
-same-length-3 : tie.Need-same-length-3
-same-length-3 c = search needs
-
-same-length-4 : tie.Need-same-length-4
-same-length-4 c = search needs
-
 returns-2 : tie.Need-returns-2
 returns-2 c =
     let done = c .before .before in
@@ -75,15 +51,5 @@ returns-2 c =
 pub run-spec : {M : Type 1} → statement M
 run-spec =
     tie.close
-    (tie.spec
-    transform-requires
-    enum-told
-    same-length
-    same-length-2
-    returns
-    enum-told-2
-    power-requires
-    rounds-requires
-    same-length-3
-    same-length-4
-    returns-2)
+    (tie.spec (λ c. search needs) (λ c. search needs) (λ c. search needs) (λ c. search needs) returns
+    (λ c. search needs) (λ c. search needs) rounds-requires (λ c. search needs) (λ c. search needs) returns-2)

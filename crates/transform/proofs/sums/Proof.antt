@@ -9,7 +9,7 @@ use denote.Ref.{now}
 use Rattle.range.specs.Signed.{entry}
 use Rattle.range.proofs.SumsSigned.{mag-add}
 use Rattle.range.proofs.Fills.{Filling, filling-none, filling-turn, filling-end}
-use Rattle.transform.specs.Steps.{addable, butterfly}
+use Rattle.transform.specs.Butterflies.{addable, butterfly}
 use Rattle.transform.proofs.Bits.{bits-back}
 use Rattle.transform.proofs.Halves.{butterfly-first}
 use Rattle.transform.proofs.sums.Statement.{statement}
@@ -86,17 +86,5 @@ returns c = filling-end (c .before .loop .inv) (c .loop-test .left)
 pub sums-spec : {M : Type 1} → statement M
 sums-spec =
     tie.close
-    (tie.spec
-    Inv-loop
-    μ-loop
-    add-end
-    loop-holds
-    add-sum
-    sum-requires
-    mul-t10
-    slice-set-from-to
-    add-i
-    loop-less
-    loop-again
-    same-length
-    returns)
+    (tie.spec Inv-loop μ-loop add-end loop-holds add-sum sum-requires mul-t10 slice-set-from-to add-i loop-less
+    loop-again same-length returns)

@@ -1,7 +1,7 @@
 -- `transform::transform` meets its contract: a walk of its MIR, by hand. Both areas are lent again to `run` and come
 -- back as it leaves them (Calling.antt), and on each of the three ways out both are given up for good, and the front of
 -- one is shared (Handing.antt; entry and exit are in Edges.antt).
--- All that it knows of `run` is that it meets its contract, and of the rules' definitions the laws of Parts.antt. Both
+-- All that it knows of `run` is that it meets its contract, and of the rules' definitions the laws of AreasAfter.antt. Both
 -- areas are spent: the result names their lifetime.
 -- Assumes nothing.
 use Prim.Native.Nat.{ℕ, _<_, _^_, _%_}
@@ -42,8 +42,8 @@ use denote.Triple.Call.{calls-at}
 use denote.Triple.Table.{entered, cited}
 use denote.Triple.Walked.{goes-none, goes-spent-slice, Walks, walked, walk-meets}
 use Rattle.rules.specs.Areas.{partInFirst}
-use Rattle.transform.specs.Told.{Ran}
-use Rattle.transform.proofs.Parts.{partInFirst-none, partInFirst-even, partInFirst-odd}
+use Rattle.transform.specs.Transformed.{Ran}
+use Rattle.transform.proofs.AreasAfter.{partInFirst-none, partInFirst-even, partInFirst-odd}
 use Rattle.transform.proofs.Again.{Kept}
 use Rattle.transform.proofs.Calling.{Told, Run, Both, given-to, lent, back}
 use Rattle.transform.proofs.Walking.{differs, to-end, becomes, copies, fronts, reborrows, leaves-if, allocates}

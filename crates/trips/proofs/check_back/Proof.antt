@@ -5,21 +5,6 @@ use Rattle.trips.proofs.TripLaws.{check-trip}
 use Rattle.trips.proofs.check_back.Statement.{statement}
 use Rattle.trips.proofs.check_back.Tie as tie
 
-encode-requires : tie.Need-encode-requires
-encode-requires c κs = search needs
-
-partner-requires : tie.Need-partner-requires
-partner-requires c κs = search needs
-
-check-requires : tie.Need-check-requires
-check-requires c κs = search needs
-
-same-length : tie.Need-same-length
-same-length c = search needs
-
-same-length-2 : tie.Need-same-length-2
-same-length-2 c = search needs
-
 -- the two calls before the check
 abbrev partnered : tie.After-check → tie.After-partner
 partnered c = c .before .before .before .before .before
@@ -33,4 +18,6 @@ returns c =
 
 pub check-back-spec : {M : Type 1} → statement M
 check-back-spec =
-    tie.close (tie.spec encode-requires partner-requires check-requires same-length same-length-2 returns)
+    tie.close
+    (tie.spec (λ c. search needs) (λ c. search needs) (λ c. search needs) (λ c. search needs) (λ c. search needs)
+    returns)

@@ -5,15 +5,6 @@ use Rattle.trips.proofs.TripLaws.{hard-trip}
 use Rattle.trips.proofs.hard_back.Statement.{statement}
 use Rattle.trips.proofs.hard_back.Tie as tie
 
-encode-requires : tie.Need-encode-requires
-encode-requires c κs = search needs
-
-hard-requires : tie.Need-hard-requires
-hard-requires c κs = search needs
-
-same-length : tie.Need-same-length
-same-length c = search needs
-
 -- the call before
 abbrev encoded : tie.After-hard → tie.After-encode
 encoded c = c .before .before .before .before
@@ -22,4 +13,4 @@ returns : tie.Need-returns
 returns c = hard-trip (encoded c .encode .ensures) (c .hard .ensures)
 
 pub hard-back-spec : {M : Type 1} → statement M
-hard-back-spec = tie.close (tie.spec encode-requires hard-requires same-length returns)
+hard-back-spec = tie.close (tie.spec (λ c. search needs) (λ c. search needs) (λ c. search needs) returns)

@@ -5,6 +5,7 @@ use Prim.Native.Nat.{ℕ, _+_, _-_, _*_, _≤_}
 use native.Mathlib.Omega.{arith}
 use mathlib.Core.Path.{_≡_, ap}
 use denote.Ref.{now}
+use borrow.Author.Needs.{needs}
 use Rattle.range.proofs.Products.{times-within, times-least}
 use Rattle.totals.specs.Climb.{climbed, byLabel}
 use Rattle.standing.specs.Lead.{leadFrom}
@@ -50,12 +51,6 @@ block-requires c κs = (c .before .before .before .pre .0, (c .loop-test .taken,
 add-label : tie.Need-add-label Inv-loop μ-loop
 add-label c = omega (arith, counted (c .before))
 
-add-c : tie.Need-add-c Inv-loop μ-loop
-add-c c = omega arith
-
-loop-less : tie.Need-loop-less Inv-loop μ-loop
-loop-less c = omega arith
-
 loop-again : tie.Need-loop-again Inv-loop μ-loop
 loop-again c =
     let in-loop = c .before in
@@ -77,14 +72,5 @@ returns c =
 pub last-spec : {M : Type 1} → statement M
 last-spec =
     tie.close
-    (tie.spec
-    Inv-loop
-    μ-loop
-    mul-step
-    loop-holds
-    block-requires
-    add-label
-    add-c
-    loop-less
-    loop-again
-    returns)
+    (tie.spec Inv-loop μ-loop mul-step loop-holds block-requires add-label (λ c. search needs) (λ c. search needs)
+    loop-again returns)

@@ -9,8 +9,5 @@ use Rattle.engine.proofs.scan.or_above.Tie as tie
 returns : tie.Need-returns
 returns c = λ e. absurd (false≢true (sym e))
 
-returns-2 : tie.Need-returns-2
-returns-2 c = search needs
-
 pub or-above-spec : {M : Type 1} → statement M
-or-above-spec = tie.close (tie.spec returns returns-2)
+or-above-spec = tie.close (tie.spec returns (λ c. search needs))

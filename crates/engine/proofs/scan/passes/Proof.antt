@@ -8,6 +8,7 @@ use mathlib.Core.Path.{sym}
 use mathlib.Core.Bool.{false≢true}
 use lib.ListN.{length}
 use denote.Ref.{now}
+use borrow.Author.Needs.{needs}
 use Rattle.range.proofs.Tests.{below-next}
 use Rattle.totals.specs.Climb.{pairAt}
 use Rattle.engine.proofs.RunLaws.{runs-within, runs-number, runs-sum, pair-below}
@@ -85,12 +86,6 @@ reaches-requires c κs =
 returns : tie.Need-returns Inv-loop μ-loop
 returns c = λ e. absurd (false≢true (sym e))
 
-add-s : tie.Need-add-s Inv-loop μ-loop
-add-s c = omega arith
-
-loop-less : tie.Need-loop-less Inv-loop μ-loop
-loop-less c = omega arith
-
 loop-again : tie.Need-loop-again Inv-loop μ-loop
 loop-again c =
     let in-loop = turn c in
@@ -108,17 +103,5 @@ returns-2 c = λ _ s i l b. c .before .loop .inv .1 s (omega (arith, c .loop-tes
 pub passes-spec : {M : Type 1} → statement M
 passes-spec =
     tie.close
-    (tie.spec
-    Inv-loop
-    μ-loop
-    loop-holds
-    even-run-requires
-    add-wrap
-    wrap-requires
-    odd-run-requires
-    reaches-requires
-    returns
-    add-s
-    loop-less
-    loop-again
-    returns-2)
+    (tie.spec Inv-loop μ-loop loop-holds even-run-requires add-wrap wrap-requires odd-run-requires reaches-requires
+    returns (λ c. search needs) (λ c. search needs) loop-again returns-2)

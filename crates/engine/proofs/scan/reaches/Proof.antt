@@ -8,6 +8,7 @@ use mathlib.Core.Path.{_≡_}
 use mathlib.Core.Bool.{false}
 use lib.ListN.{getD}
 use denote.Ref.{now}
+use borrow.Author.Needs.{needs}
 use Rattle.range.proofs.Tests.{below-next}
 use Rattle.engine.proofs.scan.reaches.Statement.{statement}
 use Rattle.engine.proofs.scan.reaches.Tie as tie
@@ -35,15 +36,6 @@ sum-requires c κs =
       pre .1 _ _,
     )
 
-or-above-requires : tie.Need-or-above-requires Inv-loop μ-loop
-or-above-requires c κs = tt
-
-add-i : tie.Need-add-i Inv-loop μ-loop
-add-i c = omega arith
-
-loop-less : tie.Need-loop-less Inv-loop μ-loop
-loop-less c = omega arith
-
 loop-again : tie.Need-loop-again Inv-loop μ-loop
 loop-again c =
     let summed = c .before in
@@ -62,15 +54,5 @@ returns c = λ e i l. c .before .loop .inv .1 e i (omega (arith, c .loop-test .l
 pub reaches-spec : {M : Type 1} → statement M
 reaches-spec =
     tie.close
-    (tie.spec
-    Inv-loop
-    μ-loop
-    loop-holds
-    add-sum
-    add-sum-2
-    sum-requires
-    or-above-requires
-    add-i
-    loop-less
-    loop-again
-    returns)
+    (tie.spec Inv-loop μ-loop loop-holds add-sum add-sum-2 sum-requires (λ c. search needs) (λ c. search needs)
+    (λ c. search needs) loop-again returns)

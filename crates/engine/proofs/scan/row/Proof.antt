@@ -4,6 +4,7 @@
 use Prim.Native.Nat.{_+_, _-_, _≤_}
 use native.Mathlib.Omega.{arith}
 use mathlib.Core.Path.{_≡_, _∙_}
+use borrow.Author.Needs.{needs}
 use Rattle.totals.specs.Climb.{pairAt}
 use Rattle.standing.specs.Lead.{leadFrom}
 use Rattle.standing.proofs.Lead.{leadFrom-none, leadFrom-turn, leadFrom-end}
@@ -27,18 +28,6 @@ value-requires c κs =
     let pre = c .before .before .before .pre in
     (pre .0, (pre .1 .0, pre .1 .1, c .loop-test .taken))
 
-better-requires : tie.Need-better-requires Inv-loop μ-loop
-better-requires c κs = tt
-
-add-label : tie.Need-add-label Inv-loop μ-loop
-add-label c = omega arith
-
-add-s : tie.Need-add-s Inv-loop μ-loop
-add-s c = omega arith
-
-loop-less : tie.Need-loop-less Inv-loop μ-loop
-loop-less c = omega arith
-
 loop-again : tie.Need-loop-again Inv-loop μ-loop
 loop-again c =
     let valued = c .before in
@@ -58,14 +47,5 @@ returns c =
 pub row-spec : {M : Type 1} → statement M
 row-spec =
     tie.close
-    (tie.spec
-    Inv-loop
-    μ-loop
-    loop-holds
-    value-requires
-    better-requires
-    add-label
-    add-s
-    loop-less
-    loop-again
-    returns)
+    (tie.spec Inv-loop μ-loop loop-holds value-requires (λ c. search needs) (λ c. search needs) (λ c. search needs)
+    (λ c. search needs) loop-again returns)

@@ -5,6 +5,7 @@ use Prim.Native.Nat.{ℕ, _+_, _-_, _*_, _/_, _%_, _≤_}
 use native.Mathlib.Omega.{arith}
 use mathlib.Core.Path.{_≡_, ap}
 use denote.Ref.{now}
+use borrow.Author.Needs.{needs}
 use Rattle.range.proofs.Products.{times-within}
 use Rattle.totals.specs.Climb.{pairAt}
 use Rattle.standing.specs.Lead.{leadFrom}
@@ -43,12 +44,6 @@ row-requires c κs =
 add-label : tie.Need-add-label Inv-loop μ-loop
 add-label c = omega (arith, counted (c .before))
 
-add-i : tie.Need-add-i Inv-loop μ-loop
-add-i c = omega arith
-
-loop-less : tie.Need-loop-less Inv-loop μ-loop
-loop-less c = omega arith
-
 loop-again : tie.Need-loop-again Inv-loop μ-loop
 loop-again c =
     let in-loop = c .before in
@@ -70,4 +65,5 @@ returns c =
 pub scan-spec : {M : Type 1} → statement M
 scan-spec =
     tie.close
-    (tie.spec Inv-loop μ-loop loop-holds row-requires add-label add-i loop-less loop-again returns)
+    (tie.spec Inv-loop μ-loop loop-holds row-requires add-label (λ c. search needs) (λ c. search needs) loop-again
+    returns)

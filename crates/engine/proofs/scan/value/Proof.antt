@@ -69,12 +69,4 @@ returns c =
 pub value-spec : {M : Type 1} → statement M
 value-spec =
     tie.close
-    (tie.spec
-    even-run-requires
-    add-sum
-    add-wrap
-    wrap-requires
-    odd-run-requires
-    add-sum-2
-    sum-requires
-    returns)
+    (tie.spec even-run-requires add-sum add-wrap wrap-requires odd-run-requires add-sum-2 sum-requires returns)

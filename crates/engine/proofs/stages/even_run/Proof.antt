@@ -1,7 +1,7 @@
 -- `engine::stages::even_run` meets its contract: where the run ends still fits, so nothing wraps on the way.
 -- Assumes nothing.
 use native.Mathlib.Omega.{arith}
-use mathlib.Core.Path.{refl}
+use borrow.Author.Needs.{needs}
 use Rattle.range.proofs.Products.{times-least}
 use Rattle.engine.proofs.stages.even_run.Statement.{statement}
 use Rattle.engine.proofs.stages.even_run.Tie as tie
@@ -9,11 +9,5 @@ use Rattle.engine.proofs.stages.even_run.Tie as tie
 mul-result : tie.Need-mul-result
 mul-result c = omega (arith, times-least (c .args .t) (c .args .w) (c .pre .0))
 
-mul-result-2 : tie.Need-mul-result-2
-mul-result-2 c = omega arith
-
-returns : tie.Need-returns
-returns c = refl
-
 pub even-run-spec : {M : Type 1} → statement M
-even-run-spec = tie.close (tie.spec mul-result mul-result-2 returns)
+even-run-spec = tie.close (tie.spec mul-result (λ c. search needs) (λ c. search needs))

@@ -8,6 +8,7 @@ use native.Mathlib.Omega.{arith}
 use mathlib.Core.Path.{_≡_, sym, _∙_, ap, subst}
 use lib.ListN.{length}
 use denote.Ref.{now}
+use borrow.Author.Needs.{needs}
 use Rattle.range.specs.Below.{Fills}
 use Rattle.range.proofs.Products.{times-within}
 use Rattle.range.proofs.Fills.{fills-none, fills-zero, fills-next, fills-trans}
@@ -155,9 +156,6 @@ slice-write-to c = place (c .before)
 add-r : tie.Need-add-r Inv-loop2 μ-loop2 Inv-loop μ-loop
 add-r c = omega (arith, place (c .before))
 
-loop2-less : tie.Need-loop2-less Inv-loop2 μ-loop2 Inv-loop μ-loop
-loop2-less c = omega arith
-
 loop2-again : tie.Need-loop2-again Inv-loop2 μ-loop2 Inv-loop μ-loop
 loop2-again c =
     let in-run = c .before in
@@ -178,12 +176,6 @@ wrap-requires : tie.Need-wrap-requires Inv-loop2 μ-loop2 Inv-loop μ-loop
 wrap-requires c κs =
     let p = start (run c) .pre .0 in
     omega (arith, number (run c), runs-half p)
-
-add-c : tie.Need-add-c Inv-loop2 μ-loop2 Inv-loop μ-loop
-add-c c = omega arith
-
-loop-less : tie.Need-loop-less Inv-loop2 μ-loop2 Inv-loop μ-loop
-loop-less c = omega arith
 
 loop-again : tie.Need-loop-again Inv-loop2 μ-loop2 Inv-loop μ-loop
 loop-again c =
@@ -213,5 +205,5 @@ pub fan-spec : {M : Type 1} → statement M
 fan-spec =
     tie.close
     (tie.spec Inv-loop2 μ-loop2 Inv-loop μ-loop mul-n even-run-requires loop-holds odd-run-requires loop2-holds add-sum
-    add-sum-2 sum-requires add-to mul-to slice-write-to add-r loop2-less loop2-again add-at add-wrap wrap-requires add-c
-    loop-less loop-again same-length returns)
+    add-sum-2 sum-requires add-to mul-to slice-write-to add-r (λ c. search needs) loop2-again add-at add-wrap
+    wrap-requires (λ c. search needs) (λ c. search needs) loop-again same-length returns)

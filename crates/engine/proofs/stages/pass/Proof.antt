@@ -4,6 +4,7 @@
 use Prim.Native.Nat.{ℕ, _+_, _-_, _*_, _≤_}
 use native.Mathlib.Omega.{arith}
 use mathlib.Core.Path.{_≡_, _∙_, ap}
+use borrow.Author.Needs.{needs}
 use Rattle.range.specs.Below.{Fills}
 use Rattle.range.proofs.Products.{times-within}
 use Rattle.range.proofs.Fills.{fills-none, fills-trans, fills-all}
@@ -58,9 +59,6 @@ add-o c = omega (arith, room (turn c), start (turn c) .pre .1)
 add-t : tie.Need-add-t Inv-loop μ-loop
 add-t c = omega (arith, turn c .loop-test .taken, runs-number (start (turn c) .pre .0))
 
-loop-less : tie.Need-loop-less Inv-loop μ-loop
-loop-less c = omega arith
-
 loop-again : tie.Need-loop-again Inv-loop μ-loop
 loop-again c =
     let in-loop = turn c in
@@ -87,16 +85,5 @@ returns c =
 pub pass-spec : {M : Type 1} → statement M
 pass-spec =
     tie.close
-    (tie.spec
-    Inv-loop
-    μ-loop
-    mul-n
-    mul-step
-    loop-holds
-    fan-requires
-    add-o
-    add-t
-    loop-less
-    loop-again
-    same-length
-    returns)
+    (tie.spec Inv-loop μ-loop mul-n mul-step loop-holds fan-requires add-o add-t (λ c. search needs) loop-again
+    same-length returns)

@@ -6,6 +6,7 @@ use native.Mathlib.Omega.{arith}
 use mathlib.Core.Path.{_≡_, _∙_, ap}
 use lib.ListN.{length}
 use denote.Ref.{now}
+use borrow.Author.Needs.{needs}
 use Rattle.range.specs.Below.{Fills}
 use Rattle.range.proofs.Products.{times-within}
 use Rattle.range.proofs.Fills.{fills-none, fills-trans, fills-all}
@@ -53,9 +54,6 @@ add-o c = omega (arith, room (turn c), start (turn c) .pre .1)
 add-s : tie.Need-add-s Inv-loop μ-loop
 add-s c = omega (arith, turn c .loop-test .taken)
 
-loop-less : tie.Need-loop-less Inv-loop μ-loop
-loop-less c = omega arith
-
 loop-again : tie.Need-loop-again Inv-loop μ-loop
 loop-again c =
     let in-loop = turn c in
@@ -80,14 +78,4 @@ returns c =
 pub start-spec : {M : Type 1} → statement M
 start-spec =
     tie.close
-    (tie.spec
-    Inv-loop
-    μ-loop
-    loop-holds
-    turn-requires
-    add-o
-    add-s
-    loop-less
-    loop-again
-    same-length
-    returns)
+    (tie.spec Inv-loop μ-loop loop-holds turn-requires add-o add-s (λ c. search needs) loop-again same-length returns)

@@ -7,6 +7,7 @@ use native.Mathlib.Omega.{arith}
 use mathlib.Core.Path.{_≡_, ap, subst}
 use lib.ListN.{length, getD}
 use denote.Ref.{now}
+use borrow.Author.Needs.{needs}
 use Rattle.range.specs.Below.{Fills}
 use Rattle.range.proofs.Products.{times-within, times-least}
 use Rattle.range.proofs.Fills.{fills-zero, fills-next}
@@ -23,9 +24,6 @@ abbrev μ-loop : tie.MeasureT-loop
 
 loop-holds : tie.Need-loop-holds Inv-loop μ-loop
 loop-holds c = (omega arith, fills-zero _ _ _)
-
-shared-slice-read-index : tie.Need-shared-slice-read-index Inv-loop μ-loop
-shared-slice-read-index c = omega arith
 
 -- the turn of the loop, seen from behind the symbol, and the function's entry, seen from the loop and from inside it
 abbrev turned : tie.After-index Inv-loop μ-loop → tie.In-loop Inv-loop μ-loop
@@ -90,9 +88,6 @@ stored c =
     _ _
     (in-loop .loop-test .taken) (start in-loop .pre .1 .1) (wrapped .before .index .ensures) (wrapped .wrap .ensures)
 
-index-requires : tie.Need-index-requires Inv-loop μ-loop
-index-requires c κs = tt
-
 add-wrap : tie.Need-add-wrap Inv-loop μ-loop
 add-wrap c =
     let s = start (turned c) in
@@ -122,12 +117,6 @@ mul-to-3 c = omega (arith, place (turned (c .before .before)))
 slice-write-to : tie.Need-slice-write-to Inv-loop μ-loop
 slice-write-to c = place (turned (c .before .before))
 
-add-i : tie.Need-add-i Inv-loop μ-loop
-add-i c = omega arith
-
-loop-less : tie.Need-loop-less Inv-loop μ-loop
-loop-less c = omega arith
-
 loop-again : tie.Need-loop-again Inv-loop μ-loop
 loop-again c =
     let wrapped = c .before in
@@ -150,5 +139,6 @@ returns c =
 pub turn-spec : {M : Type 1} → statement M
 turn-spec =
     tie.close
-    (tie.spec Inv-loop μ-loop loop-holds shared-slice-read-index index-requires add-wrap wrap-requires mul-to add-to
-    mul-to-2 shared-slice-read-to add-to-2 mul-to-3 slice-write-to add-i loop-less loop-again same-length returns)
+    (tie.spec Inv-loop μ-loop loop-holds (λ c. search needs) (λ c. search needs) add-wrap wrap-requires mul-to add-to
+    mul-to-2 shared-slice-read-to add-to-2 mul-to-3 slice-write-to (λ c. search needs) (λ c. search needs) loop-again
+    same-length returns)

@@ -22,12 +22,6 @@ module _ (x : ℕ) (p : x ≤ 4294967295) where
   fits-32 : SFits w32 (pos x -ℤ pos 2147483648)
   fits-32 = record { sfits = less }
 
-cast-result : tie.Need-cast-result
-cast-result c = search needs
-
-cast-result-2 : tie.Need-cast-result-2
-cast-result-2 c = search needs
-
 sub-result : tie.Need-sub-result
 sub-result c = rw (toZ-pos w64 (c .args .value) (omega (arith, c .pre))) (fits-64 (c .args .value) (c .pre))
 
@@ -37,8 +31,5 @@ cast-result-3 c =
     rw (toZ-pos w64 x (omega (arith, c .pre)), toZ-ofZ w64 (pos x -ℤ pos 2147483648) (fits-64 x (c .pre)))
     (fits-32 x (c .pre))
 
-returns : tie.Need-returns
-returns c = search needs
-
 pub lowered-spec : {M : Type 1} → statement M
-lowered-spec = tie.close (tie.spec cast-result cast-result-2 sub-result cast-result-3 returns)
+lowered-spec = tie.close (tie.spec (λ c. search needs) (λ c. search needs) sub-result cast-result-3 (λ c. search needs))

@@ -17,20 +17,11 @@ between : (z : ℤ) → ltZ z (negsuc 32767) ≡ false → ltZ (pos 32767) z ≡
 between (pos n) l g = record { sfits = omega (arith, ltb-false 32767 n g) }
 between (negsuc n) l g = record { sfits = omega (arith, ltb-false 32767 n l) }
 
-returns : tie.Need-returns
-returns c = search needs
-
-returns-2 : tie.Need-returns-2
-returns-2 c = search needs
-
 cast-t3 : tie.Need-cast-t3
 cast-t3 c =
     let start = c .before .before in
     let e = toZ-ofZ w32 (start .args .x) (start .fits .x) in
     rw e (between (start .args .x) (rw e at (c .before .if1 .left)) (rw e at (c .if2 .left)))
 
-returns-3 : tie.Need-returns-3
-returns-3 c = search needs
-
 pub short-of-spec : {M : Type 1} → statement M
-short-of-spec = tie.close (tie.spec returns returns-2 cast-t3 returns-3)
+short-of-spec = tie.close (tie.spec (λ c. search needs) (λ c. search needs) cast-t3 (λ c. search needs))

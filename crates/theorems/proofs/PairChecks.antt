@@ -32,7 +32,7 @@ use Rattle.golay.proofs.Envelopes.{envelopePower-together}
 use Rattle.pair.specs.declared.Paired.{Paired}
 use Rattle.pair.specs.declared.Paired.the-variants.{Yes, No}
 use Rattle.pair.specs.Paired.{pairedTold}
-use Rattle.pair.proofs.Pairs.{golayPair-iff, golayPair-cong, golayPair-self}
+use Rattle.pair.proofs.PairTest.{golayPair-iff, golayPair-cong, golayPair-self}
 use Rattle.pair.proofs.Given.{pair-given}
 use Rattle.pair.proofs.Unique.{pairedTold-inj}
 use Rattle.theorems.specs.Names.{word, partner, Encodes, Partners}

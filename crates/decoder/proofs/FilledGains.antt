@@ -1,6 +1,6 @@
 -- A table of gains (totals, specs/Gains.antt), filled number after number.
 -- In order: number e of a table; its place and its symbol; the table once it is filled.
--- Not here: what a filled table holds (totals, Tables), which gains there are (totals, SoftTotals, HardTotals).
+-- Not here: what a filled table holds (totals, GainTables), which gains there are (totals, SoftTotals, HardTotals).
 -- Assumes nothing.
 use Prim.Native.Nat.{ℕ, _*_, _/_, _%_, _<_}
 use native.Mathlib.Nat.{mod-lt, div-lt-iff-lt-mul}

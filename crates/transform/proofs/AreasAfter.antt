@@ -24,8 +24,8 @@ use Rattle.rules.specs.Areas.{inFirst, firstAfter, secondAfter, partOf, partLen
 use Rattle.rules.proofs.Range.{inM-range}
 use Rattle.rules.proofs.RefusalLaws.{transform-taken}
 use Rattle.spectrum.proofs.Entries.{stages-spectrum}
-use Rattle.transform.specs.Told.{Ran}
-use Rattle.transform.specs.Steps.{firstAt, secondAt}
+use Rattle.transform.specs.Transformed.{Ran}
+use Rattle.transform.specs.Butterflies.{firstAt, secondAt}
 
 module _ (m : ℕ) (a b : List ℤ) where
   abbrev outcome : Outcome (Unit {0})

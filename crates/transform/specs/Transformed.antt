@@ -4,7 +4,7 @@
 --                                   holds, and where it stands
 --           AtLastOf x y a b        what the areas x and y hold at last, when their loans are over: a and b
 --           AtLast m x y            the same, of the areas that the transform leaves: each of them, whole
--- Laws: proofs/Parts.antt, Unique.antt, and crate theorems.  Assumes nothing: these are definitions.
+-- Laws: proofs/AreasAfter.antt, Unique.antt, and crate theorems.  Assumes nothing: these are definitions.
 use Prim.Native.Nat.{ℕ}
 use mathlib.Core.Path.{_≡_}
 use mathlib.Core.Bool.{cond}

@@ -21,7 +21,7 @@ use Rattle.rules.specs.Label.{labelPath, coefficient, constant}
 use Rattle.rules.specs.Word.{links, formAt, wordAt}
 use Rattle.places.proofs.Digits.{digit-lt}
 use Rattle.places.proofs.Flips.{flip, flip-flip, digit-flip-at}
-use Rattle.paths.proofs.Pairs.{onPair}
+use Rattle.paths.proofs.LinkedPairs.{onPair}
 use Rattle.signals.proofs.Weights.{Weight, weigh}
 use Rattle.words.proofs.Labels.{coefficient-lt, constant-lt}
 use Rattle.words.proofs.Readings.{Good, linked, linear}
