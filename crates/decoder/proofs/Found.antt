@@ -3,7 +3,7 @@
 -- accepted; what its search gives; the message that is answered; the answer of soft decoding; the answer of hard
 -- decoding.
 -- Not here: totals, correlations and distances (totals, Answers).  Assumes nothing.
-use Prim.Native.Nat.{ℕ, _-_, _*_, _^_, _≤_, _<_, zero-le}
+use Prim.Native.Nat.{ℕ, _-_, _*_, _≤_, _<_, zero-le}
 use native.Mathlib.Nat.{mul-le-mul, le-refl}
 use native.Mathlib.Decide.{decLt}
 use native.Mathlib.Omega.{arith}
@@ -20,7 +20,7 @@ use Rattle.range.specs.Signed.{entry}
 use Rattle.range.proofs.Lists.{length-listBelow, listBelow-at}
 use Rattle.range.proofs.Sums.{sumBelow-le}
 use Rattle.range.proofs.Tests.{allBelow-of}
-use Rattle.rules.specs.Shape.{inShape, phases, halfTurn, carriers}
+use Rattle.rules.specs.Shape.{greatestM, inShape, phases, halfTurn, carriers}
 use Rattle.rules.specs.Label.{labels, labelOf, messageOf}
 use Rattle.rules.specs.Word.{symbolAt}
 use Rattle.rules.specs.Best.{Best}
@@ -99,7 +99,7 @@ module _ (h m : ℕ) (ok : inShape h m ≡ true) (two : h ≤ 2) (st : Standing)
     heard : Leads h m (2 * raiseBy) (softGain h ys) st
     heard = search-leads h m (2 * raiseBy) (softGain h ys) (softGain-le h ys small) ok two (lit≤ tt) st q
 
-    pub soft-best-le : st .best ≤ 2 ^ 30
+    pub soft-best-le : st .best ≤ carriers greatestM * (2 * raiseBy)
     soft-best-le =
         omega (arith, heard .1, mul-le-mul (carriers-most h m (inShape-range h m ok)) (le-refl (2 * raiseBy)))
 

@@ -1,4 +1,4 @@
--- Laws of the decoder's steps, and of its promises.
+-- Laws of the decoder's steps.
 pub mod Casts
 pub mod FilledGains
 pub mod Values

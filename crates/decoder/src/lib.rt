@@ -11,14 +11,14 @@ use engine::GREATEST_DECODED;
 use kinds::Judged;
 use shape::PLACES;
 use standing::Standing;
-ghost use Prim.Native.Nat.{ℕ, _+_, _-_, _*_, _^_, _≤_, _<_};
+ghost use Prim.Native.Nat.{ℕ, _+_, _-_, _*_, _≤_, _<_};
 ghost use mathlib.Core.Path.{_≡_};
 ghost use mathlib.Core.Bool.{true};
 ghost use lib.IntN.{pos, _-ℤ_};
 ghost use lib.ListN.{length};
 ghost use lib.Signed.{mag};
 ghost use Rattle.range.specs.Signed.{entry};
-ghost use Rattle.rules.specs.Shape.{inShape, phases, halfTurn, carriers};
+ghost use Rattle.rules.specs.Shape.{greatestM, inShape, phases, halfTurn, carriers};
 ghost use Rattle.rules.specs.Label.{messageOf};
 ghost use Rattle.rules.specs.Outcome.{allowed};
 ghost use Rattle.rules.specs.Refusal.{softRefusal, hardRefusal};
@@ -154,7 +154,7 @@ fn hard_gain(q: u64, a: u8, s: u8) -> u32
 // What soft decoding answers of a search: the message of the greatest total, and the correlation that the total stands
 // for.
 fn as_correlation(h: u32, m: u32, st: Standing) -> Loudest
-    requires { ⌜ (inShape h m ≡ true) × (st .best ≤ 2 ^ 30) ⌝ }
+    requires { ⌜ (inShape h m ≡ true) × (st .best ≤ carriers greatestM * (2 * raiseBy)) ⌝ }
     ensures { λ r. ⌜ (r .message .0 ≡ messageOf h m (st .label))
         × (r .correlation ≡ pos (st .best) -ℤ pos (carriers m * raiseBy)) × (r .tied ≡ tiedOf st) ⌝ }
 {

@@ -2,7 +2,8 @@
 -- closer are of the same path, coefficients and constant, so of the same label; the law for any weight of differences;
 -- for differing places, which are a quarter of all at least, of any two paths and of two that are in use; for Lee
 -- distance from four phases on, which is half the number of places at least; for 01's distance, which is not 0.
--- Not here: what a difference in one part weighs (PartsApart), that equal words are of one label (Inject).  Assumes nothing.
+-- Not here: what a difference in one part weighs (PartsApart), that equal words are of one label (Inject).  Assumes
+-- nothing.
 use Prim.Native.Nat.{ℕ, _-_, _*_, _%_, _^_, _≤_, _<_}
 use native.Mathlib.Nat.{le-refl, mul-le-mul}
 use native.Mathlib.Decide.{ℕ-discrete}
@@ -30,7 +31,8 @@ use Rattle.signals.proofs.Metric.{distance-weigh}
 use Rattle.words.proofs.Labels.{label-inj, labelPath-lt}
 use Rattle.words.proofs.Used.{isPath-good}
 use Rattle.distances.proofs.Gaps.{Positive}
-use Rattle.distances.proofs.PartsApart.{apart, pairLinks, apart-of-links, apart-of-coefficient, apart-of-constant}
+use Rattle.distances.proofs.PartsApart.{apart, pairLinks, apart-of-links}
+use Rattle.distances.proofs.PartsApart.{apart-of-coefficient, apart-of-constant}
 
 module _ (h m l k c : ℕ) (ω : ℕ → ℕ) (weight : Weight (phases h) ω) (positive : Positive (phases h) ω) (pos : 1 ≤ h)
     (ll : labelPath h m l < length (paths m)) (lk : labelPath h m k < length (paths m)) (two : c ≤ 2)

@@ -1,5 +1,5 @@
 -- A label number taken apart by dividing, lowest coefficient first.
--- Defines:  Taken h m l q r rest c    c and the coefficients above r are taken; rest is what stands above them
+-- Defines:  Divided h m l q r rest c    c and the coefficients above r are taken; rest is what stands above them
 -- In order: after the first division; after one more; after the last.  Assumes nothing.
 use Prim.Native.Nat.{ℕ, zero, suc, _+_, _-_, _/_, _%_, _^_, _≤_, _<_}
 use native.Mathlib.Nat.{pow-suc, div-div-eq-div-mul, eq-or-lt-of-le, not-le-of-lt}
@@ -13,7 +13,7 @@ use Rattle.rules.specs.Shape.{greatestM, phases}
 use Rattle.rules.specs.Label.{labelPath, coefficient, constant, rowCoefficient}
 use Rattle.words.proofs.Labels.{over-one}
 
-pub record Taken (h m l q r rest : ℕ) (c : List ℕ) : Type 0 where
+pub record Divided (h m l q r rest : ℕ) (c : List ℕ) : Type 0 where
   pub base : q ≡ phases h
   pub within : r ≤ m
   pub above : rest ≡ l / q ^ (m + 1 - r)
@@ -26,9 +26,10 @@ divide-more : (l q e : ℕ) → l / q ^ e / q ≡ l / q ^ suc e
 divide-more l q e = div-div-eq-div-mul l (q ^ e) q ∙ ap (λ (x : ℕ). l / x) (sym (pow-suc q e))
 
 module _ (h m l q : ℕ) where
-  pub taken-first : (c : List ℕ) → q ≡ phases h → length c ≡ suc greatestM → Taken h m l q m (l / q) (set c 0 (l % q))
+  pub divided-first : (c : List ℕ) → q ≡ phases h → length c ≡ suc greatestM →
+      Divided h m l q m (l / q) (set c 0 (l % q))
   unfolding constant
-  taken-first c b n = record {
+  divided-first c b n = record {
     base = b;
     within = omega arith;
     above = sym (ap (λ (e : ℕ). l / q ^ e) one ∙ over-one q l);
@@ -40,7 +41,7 @@ module _ (h m l q : ℕ) where
       one : m + 1 - m ≡ 1
       one = omega arith
 
-  module _ (r rest : ℕ) (c : List ℕ) (t : Taken h m l q r rest c) (some : 0 < r) (most : m ≤ greatestM) where
+  module _ (r rest : ℕ) (c : List ℕ) (t : Divided h m l q r rest c) (some : 0 < r) (most : m ≤ greatestM) where
     -- the coefficient that is taken next
     taken-next : rest % q ≡ coefficient h m l r
     unfolding coefficient
@@ -53,8 +54,8 @@ module _ (h m l q : ℕ) where
         ∙ taken-next ∙ ap (λ (k : ℕ). coefficient h m l k) e
     taken-row j h₁ h₂ (inr h₃) = getD-set-other c r j (rest % q) 0 (λ e. omega arith) ∙ t .rows j h₃ h₂
 
-    pub taken-step : Taken h m l q (r - 1) (rest / q) (set c r (rest % q))
-    taken-step = record {
+    pub divided-step : Divided h m l q (r - 1) (rest / q) (set c r (rest % q))
+    divided-step = record {
       base = t .base;
       within = omega (arith, t .within);
       above =
@@ -66,12 +67,12 @@ module _ (h m l q : ℕ) where
     }
 
   -- all is taken: the rest is the path number
-  module _ (r rest : ℕ) (c : List ℕ) (t : Taken h m l q r rest c) (none : r ≡ 0) where
-    pub taken-path : rest ≡ labelPath h m l
+  module _ (r rest : ℕ) (c : List ℕ) (t : Divided h m l q r rest c) (none : r ≡ 0) where
+    pub divided-path : rest ≡ labelPath h m l
     unfolding labelPath
-    taken-path = t .above ∙ ap (λ (e : ℕ). l / q ^ e) (omega arith) ∙ ap (λ (b : ℕ). l / b ^ (m + 1)) (t .base)
+    divided-path = t .above ∙ ap (λ (e : ℕ). l / q ^ e) (omega arith) ∙ ap (λ (b : ℕ). l / b ^ (m + 1)) (t .base)
 
-    pub taken-rows : (j : ℕ) → j ≤ m → getD c j 0 ≡ rowCoefficient h m l j
+    pub divided-rows : (j : ℕ) → j ≤ m → getD c j 0 ≡ rowCoefficient h m l j
     unfolding rowCoefficient
-    taken-rows zero h₁ = t .lowest
-    taken-rows (suc j) h₁ = t .rows (suc j) (omega arith) h₁
+    divided-rows zero h₁ = t .lowest
+    divided-rows (suc j) h₁ = t .rows (suc j) (omega arith) h₁

@@ -3,7 +3,7 @@
 -- refused, and where something is.
 -- Not here: that only one outcome satisfies it (Unique).  Assumes nothing.
 use Prim.Native.Nat.{ℕ}
-use mathlib.Core.Path.{_≡_, refl, sym, _∙_, ap, subst}
+use mathlib.Core.Path.{_≡_, sym, _∙_, ap, subst}
 use mathlib.Core.List.{List}
 use lib.ListN.{length}
 use Rattle.rules.specs.Outcome.{Outcome, refuses, allowed, leaves}
@@ -12,7 +12,7 @@ use Rattle.kinds.specs.declared.Refusal.{Refusal}
 use Rattle.kinds.specs.Refusals.{refusalTold}
 use Rattle.encoder.specs.declared.Written.{Written}
 use Rattle.encoder.specs.declared.Written.the-variants.{Done, Refused}
-use Rattle.encoder.specs.Sent.{writtenTold, Sent}
+use Rattle.encoder.specs.Sent.{Sent}
 
 module _ (h m g : ℕ) (word before : List ℕ) where
   pub sent-refused : (why : Refusal) → refusalTold why ≡ sendRefusal h m (length before) g →

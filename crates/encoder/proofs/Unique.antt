@@ -1,5 +1,5 @@
--- Only one outcome of encode and partner keeps their promise. In order: what an answer tells determines it; one outcome,
--- answer and slice.  Assumes nothing.
+-- Only one outcome of encode and partner keeps their promise. In order: what an answer tells determines it; one
+-- outcome, answer and slice.  Assumes nothing.
 use Prim.Native.Nat.{ℕ}
 use mathlib.Core.Path.{_≡_, refl, sym, _∙_, ap}
 use mathlib.Core.List.{List}

@@ -1,5 +1,5 @@
--- The labels of all paths: specs/SearchTables.antt, AllPaths. In order: all labels are those of the paths in use; the areas
--- have room for each shape; one path of all may be searched.
+-- The labels of all paths: specs/SearchTables.antt, AllPaths. In order: all labels are those of the paths in use; the
+-- areas have room for each shape; one path of all may be searched.
 -- Not here: the labels of one path (PathLaws).  Assumes nothing.
 use Prim.Native.Nat.{ℕ, _+_, _*_, _^_, _≤_, _<_}
 use native.Mathlib.Nat.{pow-le-pow-left, pow-le-pow-right}

@@ -1,6 +1,6 @@
--- The labels of one path: specs/SearchTables.antt, OnePath. In order: its first label is one, and so are the others; powers
--- to m, as the stages count them; the areas have room for the first table; the path's own word can be put into the
--- gains; the first table, of which the stages may begin; what they answer, in terms of totals.
+-- The labels of one path: specs/SearchTables.antt, OnePath. In order: its first label is one, and so are the others;
+-- powers to m, as the stages count them; the areas have room for the first table; the path's own word can be put into
+-- the gains; the first table, of which the stages may begin; what they answer, in terms of totals.
 -- Not here: the labels of all paths (AllPaths), the stages (Climbing).  Assumes nothing.
 use Prim.Native.Nat.{ℕ, suc, _+_, _-_, _*_, _^_, _≤_, _<_}
 use native.Mathlib.Nat.{one-mul, mul-le-mul, le-refl, pow-suc, pow-succ', pow-le-pow-left, one-le-pow}

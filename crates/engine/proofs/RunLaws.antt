@@ -1,5 +1,5 @@
--- The runs of a table lie inside it, and no sum of two numbers is too great: specs/SearchTables.antt. In order: the runs
--- of a table that is read, how many there are, and sums of their numbers; the sums of the last stage; a sum as a
+-- The runs of a table lie inside it, and no sum of two numbers is too great: specs/SearchTables.antt. In order: the
+-- runs of a table that is read, how many there are, and sums of their numbers; the sums of the last stage; a sum as a
 -- number of the next table, and the run one symbol further on; a gain as a number of the first table; a table at the
 -- front of an area, read and written.
 -- Not here: the labels of a table (Counting), the stages one after the other (Climbing).  Assumes nothing.

@@ -20,7 +20,7 @@ pub struct Which(pub u32);
 pub enum Refusal {
     // 1: h or m is outside its range.
     Shape,
-    // 2: a slice has not exactly the length named, or an area is shorter than N.
+    // 2: a slice of the wrong length for this shape, or an area shorter than N.
     Length,
     // 3: a symbol is 2^h or more.
     Symbol(Place),

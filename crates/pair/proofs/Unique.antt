@@ -1,7 +1,6 @@
 -- Only one answer of the pair check keeps its promise. In order: what an answer tells determines it; one answer.
 -- Assumes nothing.
 use Prim.Native.Nat.{ℕ}
-use native.Mathlib.Omega.{arith}
 use mathlib.Core.Path.{_≡_, refl, sym, _∙_, ap}
 use mathlib.Core.Bool.{true≢false}
 use mathlib.Core.List.{List}

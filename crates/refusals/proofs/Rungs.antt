@@ -1,6 +1,6 @@
--- Laws of tests behind others: rules' `andThen`. Code asks test after test, and the rules nest them; the last law that a
--- proof cites turns the one into the other. In order: a test as code asks it is the table's; the first test; one behind
--- others, where these have been put in the rules' words.
+-- Laws of tests behind others: rules' `andThen`. Code asks test after test, and the rules nest them; the last law that
+-- a proof cites turns the one into the other. In order: a test as code asks it is the table's; the first test; one
+-- behind others, where these have been put in the rules' words.
 -- Not here: laws of `andThen` itself (rules, OutcomeLaws).  Assumes nothing.
 use Prim.Native.Nat.{ℕ}
 use mathlib.Core.Path.{_≡_, refl, _∙_, ap}

@@ -1,8 +1,9 @@
 // What each call refuses, and in which order: document 01 "When the receiver says no". These functions only ask. Each
 // answers the refusal that rules, specs/Refusal.antt, has for its call, or that there is none; the call asks it, and
 // then works.
-// Each goes down the tests of its call, the first of them first. A test is asked only where nothing is refused before
-// it, so that no slice of a wrong length is looked through; a new one is a line between two others.
+// Each goes down the tests of its call, the first of them first; a new one is a line between two others. A slice is
+// looked through only where nothing is refused before; the other tests cost nothing, and say what they say of every
+// argument.
 mod table;
 
 use kinds::Judged;
@@ -26,7 +27,7 @@ ghost use Rattle.rules.specs.Table.{badShape, badSymbol, badValue};
 ghost use Rattle.rules.specs.Refusal.{sendRefusal, pairRefusal, wordRefusal, softRefusal, hardRefusal};
 ghost use Rattle.rules.specs.Refusal.{transformRefusal};
 ghost use Rattle.kinds.specs.Refusals.{refusalTold, judgedTold};
-ghost use Rattle.refusals.specs.Found.{searchTold};
+ghost use Rattle.refusals.specs.Searched.{searchTold};
 
 // What a search through a slice finds.
 enum Search {

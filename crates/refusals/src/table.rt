@@ -14,14 +14,14 @@ ghost use Rattle.rules.specs.Shape.{carriers};
 ghost use Rattle.rules.specs.Soft.{softLength};
 ghost use Rattle.rules.specs.Spectrum.{accepted};
 ghost use Rattle.rules.specs.Table.{badLength, shortArea, badMessage, octary, badSymbol, badValue};
-ghost use Rattle.refusals.specs.Found.{searchTold};
+ghost use Rattle.refusals.specs.Searched.{searchTold};
 
 // The least and the greatest input that the transform takes.
 const WIDEST: i32 = 32768;
 
-pub const LEAST: i32 = -WIDEST;
+const LEAST: i32 = -WIDEST;
 
-pub const GREATEST: i32 = WIDEST - 1;
+const GREATEST: i32 = WIDEST - 1;
 
 // Whether x is 2^e, and whether it is 2^e or more.
 fn is_power(x: u64, e: u64) -> bool
@@ -36,7 +36,7 @@ fn reaches(x: u64, e: u64) -> bool
     if e < 64 { 1u64 << e <= x } else { false }
 }
 
-// 2: a slice of n has not exactly N places.
+// 2: a slice of n places, where the shape has N.
 pub(super) fn bad_length(n: usize, m: u32) -> bool
     ensures { λ r. ⌜ r ≡ badLength n (carriers m) ⌝ }
 {
@@ -82,18 +82,12 @@ pub(super) fn bad_symbol(h: u32, word: &[u8]) -> Search
     let e = h as u64;
     let mut i = 0;
     while i < word.len() {
-        if reaches(wide(word[i]), e) {
+        if reaches(shape::wide(word[i]), e) {
             return Search::At(Place(i));
         }
         i += 1;
     }
     Search::Nowhere
-}
-
-fn wide(x: u8) -> u64
-    ensures { λ y. ⌜ y ≡ x ⌝ }
-{
-    x as u64
 }
 
 // 7: the first of the first N entries that is no input. Where the area is shorter there is nothing behind its end.

@@ -1,18 +1,18 @@
 -- Every starred case of 01 is right: the one claim about the list of specs/Known.antt, by computation.
 -- In order: a shape outside its range; the soft case; the hard case; silence; the claim.  Assumes nothing.
-use Prim.Native.Nat.{ℕ, _≤_}
+use Prim.Native.Nat.{ℕ}
 use native.Mathlib.Omega.{arith}
 use mathlib.Core.Path.{_≡_, refl}
 use mathlib.Core.Bool.{true, false, and-false}
 use mathlib.Core.List.{[], _∷_, flatMap}
 use lib.Dec.{lit<, leb, leb→le}
 use lib.IntN.{pos}
-use lib.ListN.{length, replicate, length-replicate}
+use lib.ListN.{length-replicate}
 use lib.Signed.{leZ}
-use borrow.Author.Tests.{eqb-false, eq-eqb, ne-eqb}
+use borrow.Author.Tests.{eqb-false}
 use Rattle.range.specs.Below.{sumBelow, countBelow, allBelow, firstBelow, listBelow}
 use Rattle.range.specs.Signed.{sumℤ}
-use Rattle.rules.specs.Shape.{pathBits, inH, inM, inShape}
+use Rattle.rules.specs.Shape.{pathBits, inH, inM}
 use Rattle.rules.specs.Place.{digit}
 use Rattle.rules.specs.Path.{keep, without, orders, upTo, paths, pathAt}
 use Rattle.rules.specs.Label.{labels, labelPath, coefficient, constant, labelParts, labelOf}
@@ -21,13 +21,13 @@ use Rattle.rules.specs.Pair.{minus, phaseCount, pairCount, golayPair}
 use Rattle.rules.specs.Distance.{hamming, distance, distanceTo}
 use Rattle.rules.specs.Soft.{heard, correlation, softLength}
 use Rattle.rules.specs.Best.{AtMost, AtLeast}
-use Rattle.rules.specs.Outcome.{allowed}
 use Rattle.rules.specs.Table.{badShape, badSymbol, messageWith}
 use Rattle.rules.specs.Refusal.{sendRefusal, pairRefusal, pairOutcome, wordRefusal, readOutcome, softRefusal}
 use Rattle.rules.specs.Refusal.{hardRefusal, transformRefusal}
 use Rattle.rules.specs.Known.{Refused1, reaching, Right, AllRight, starred, fourLeast, outsideM, soft, hard}
 use Rattle.rules.specs.Known.{silence}
 use Rattle.rules.proofs.Range.{inShape-range}
+use Rattle.rules.proofs.RefusalLaws.{soft-allowed}
 use Rattle.rules.proofs.BestLaws.{best-of-tests, tied-of-another}
 use Rattle.rules.proofs.Silence.{loud-of-zeros}
 
@@ -70,19 +70,9 @@ hard-right = let value = distanceTo 1 2 (1 ∷ 1 ∷ 1 ∷ 1 ∷ []) in record {
   };
 }
 
--- zeros of the right length are not refused
-zeros-allowed : (h m : ℕ) → inShape h m ≡ true → h ≤ 2 → softRefusal h m (replicate (softLength h m) (pos 0)) ≡ allowed
-unfolding softRefusal
-zeros-allowed h m e two =
-    rw (
-      e,
-      ne-eqb h 3 (λ q. omega arith),
-      eq-eqb (length (replicate (softLength h m) (pos 0))) (softLength h m) (length-replicate (softLength h m) (pos 0)),
-    )
-
 silence-right : Right silence
 silence-right h m e two = record {
-  taken = zeros-allowed h m e two;
+  taken = soft-allowed h m _ (record { shape = e; few = two; long = length-replicate (softLength h m) (pos 0) });
   right = loud-of-zeros h m (inShape-range h m e .h-least);
 }
 

@@ -7,7 +7,7 @@ use mathlib.Core.Path.{_≡_, refl, sym, _∙_, ap}
 use mathlib.Core.Bool.{Bool, true, false, _||_}
 use mathlib.Core.List.{List, [], _∷_}
 use mathlib.Core.Option.{Option, none, some}
-use Rattle.rules.specs.Outcome.{Outcome, gives, refuses, allowed, andThen, refuse, refuseAt, OutcomeOf}
+use Rattle.rules.specs.Outcome.{Outcome, gives, refuses, andThen, refuse, refuseAt, OutcomeOf}
 
 module _ {A : Type 0} where
   pub gives-not-refuses : {a : A} {k : ℕ} {v : List ℕ} → gives a ≡ refuses k v → ⊥
@@ -56,12 +56,6 @@ module _ {A : Type 0} where
   pub andThen-refused : {r : Outcome (Unit {0})} {k : ℕ} {v : List ℕ} (o : Outcome A) → refuses k v ≡ r →
       refuses k v ≡ andThen r o
   andThen-refused o e = ap (λ (x : Outcome (Unit {0})). andThen x o) e
-
-  -- what is given behind other tests is given where they refuse nothing
-  pub andThen-gives : (r : Outcome (Unit {0})) (o : Outcome A) (a : A) → andThen r o ≡ gives a →
-      (r ≡ allowed) × (o ≡ gives a)
-  andThen-gives (gives tt) o a e = (refl, e)
-  andThen-gives (refuses k v) o a e = absurd (gives-not-refuses (sym e))
 
 -- only one outcome is answered, where only one answer is right
 module _ {A : Type 0} (r : Outcome (Unit {0})) (Right : A → Type 0) where

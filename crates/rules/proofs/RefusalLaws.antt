@@ -18,7 +18,7 @@ use Rattle.rules.specs.Shape.{inM, inShape, carriers, messages}
 use Rattle.rules.specs.Symbols.{Symbols}
 use Rattle.rules.specs.Soft.{softLength}
 use Rattle.rules.specs.Spectrum.{accepted}
-use Rattle.rules.specs.Outcome.{allowed, refuse, refuseAt}
+use Rattle.rules.specs.Outcome.{allowed}
 use Rattle.rules.specs.Table.{badShape, badLength, badSymbol, badMessage, octary, shortArea}
 use Rattle.rules.specs.Table.{badValue}
 use Rattle.rules.specs.Refusal.{sendRefusal, pairRefusal, refuseWord, wordRefusal, softRefusal, hardRefusal}

@@ -1,15 +1,21 @@
--- What `power` gives. In order: a power below 64 bits; for a shape in range the phases, the carriers, the labels of a
--- path, the paths in use.
+-- What `power` gives. In order: a power as code shifts it; one below 64 bits; for a shape in range the phases, the
+-- carriers, the labels of a path, the paths in use.
 -- Assumes nothing.
-use Prim.Native.Nat.{ℕ, _+_, _*_, _^_, _<_}
+use Prim.Native.Nat.{ℕ, _+_, _*_, _%_, _^_, _<_}
+use native.Mathlib.Nat.{one-mul}
 use native.Mathlib.Omega.{arith}
 use mathlib.Core.Path.{_≡_, sym, _∙_, ap}
 use mathlib.Core.Bool.{true, cond}
-use lib.Dec.{ltb}
+use lib.Dec.{ltb, lit<}
+use lib.Pow.{shl-exact}
 use borrow.Author.Tests.{lt-ltb}
 use Rattle.range.proofs.Tests.{and-right}
 use Rattle.rules.specs.Shape.{inH, inM, inShape, phases, carriers, pathBits, pathsInUse}
 use Rattle.rules.proofs.Range.{InRange, inM-range, inShape-range, pathBits-le, coefficientBits-le, phases-pow}
+
+-- a shift of 1 by less than the width loses nothing
+pub shift-is : (e : ℕ) → e < 64 → (1 * 2 ^ e) % 2 ^ 64 ≡ 2 ^ e
+shift-is e h = shl-exact {a = 1} 1 e 64 (lit< tt) (omega arith) ∙ one-mul (2 ^ e)
 
 -- what `power` gives below 64
 pub power-is : (e : ℕ) → e < 64 → cond (ltb e 64) (2 ^ e) 0 ≡ 2 ^ e

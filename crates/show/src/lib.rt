@@ -105,8 +105,8 @@ pub fn reason(why: Refusal) {
         3 => say(b"a symbol is too large"),
         4 => say(b"message number too large for this shape"),
         5 => say(b"no message has this word"),
-        6 => say(b"no decoding for 8 phases"),
+        6 => say(b"decoding of eight phases (h = 3) is not supported"),
         7 => say(b"a value is out of range"),
-        _ => (),
+        _ => say(b"see the table of refusals"),
     }
 }

@@ -2,10 +2,10 @@
 -- That the code's constants are these is computed where the code reads them (steps).
 -- In order: what a path in use is; the steps of any other; a path as one number, and its digits; the table and the
 -- starts; a place of the table lies inside; what stands there; the steps of a path in use.  Assumes nothing.
-use Prim.Native.Nat.{ℕ, zero, suc, _+_, _-_, _*_, _/_, _%_, _^_, _≤_, _<_, suc-le-suc}
+use Prim.Native.Nat.{ℕ, zero, suc, _+_, _-_, _*_, _/_, _^_, _≤_, _<_, suc-le-suc}
 use native.Mathlib.Nat.{not-suc-le-zero, le-of-suc-le-suc, zero-lt-suc, mul-suc, div-one, div-div-eq-div-mul}
 use native.Mathlib.Omega.{arith}
-use mathlib.Core.Path.{_≡_, refl, sym, _∙_, ap}
+use mathlib.Core.Path.{_≡_, sym, _∙_, ap}
 use mathlib.Core.Bool.{true, false}
 use mathlib.Core.List.{List, [], _∷_}
 use lib.Arith.{digits-div, digits-mod}
@@ -51,7 +51,8 @@ packed-above : (a : ℕ) (p : List ℕ) → Digits p → packed a p / 2 ^ (3 * l
 unfolding packed
 packed-above a [] d = div-one a
 packed-above a (x ∷ p) d =
-    let e : 2 ^ (3 * suc (length p)) ≡ 2 ^ (3 * length p) * 8 = rw (mul-suc 3 (length p)) (pow-add 2 (3 * length p) 3) in
+    let e : 2 ^ (3 * suc (length p)) ≡ 2 ^ (3 * length p) * 8 =
+    rw (mul-suc 3 (length p)) (pow-add 2 (3 * length p) 3) in
     rw e
     (sym (div-div-eq-div-mul (packed (a * 8 + x) p) (2 ^ (3 * length p)) 8)
     ∙ ap (λ (y : ℕ). y / 8) (packed-above (a * 8 + x) p (rest-digits x p d))

@@ -3,8 +3,7 @@
 -- holds; what the rows say.
 -- Not here: what the transform then does (Transforming); other calls (Rows, PairRows, DecodingRows).  Assumes nothing.
 use Prim.Native.Nat.{ℕ, _-_, _≤_, _<_}
-use native.Mathlib.Omega.{arith}
-use mathlib.Core.Path.{_≡_, refl, sym, ap}
+use mathlib.Core.Path.{_≡_, sym, ap}
 use mathlib.Core.Bool.{Bool, true, false, not, _||_, false≢true}
 use mathlib.Core.List.{List, []}
 use mathlib.Core.Option.{none, some}
@@ -13,9 +12,9 @@ use lib.ListN.{length}
 use borrow.Author.Tests.{ltb-false, le-ltb, not-true, not-false}
 use Rattle.range.specs.Signed.{entry}
 use Rattle.range.proofs.Tests.{or-false, true-of-not-false, firstBelow-at, firstBelow-some, firstBelow-nowhere}
-use Rattle.rules.specs.Shape.{inM, carriers}
+use Rattle.rules.specs.Shape.{carriers}
 use Rattle.rules.specs.Spectrum.{accepted}
-use Rattle.rules.specs.Outcome.{Outcome, refuses}
+use Rattle.rules.specs.Outcome.{Outcome}
 use Rattle.rules.specs.Table.{badM, shortArea, badValue}
 use Rattle.rules.specs.Refusal.{transformRefusal}
 use Rattle.rules.proofs.OutcomeLaws.{refuse-cases, refuseAt-cases}

@@ -10,7 +10,7 @@
 -- Laws: proofs/Halves.antt, Stages.antt.  Assumes nothing: these are definitions.
 use Prim.Native.Nat.{ℕ, zero, suc, _+_, _-_, _*_, _/_, _%_, _^_, _≤_, _<_}
 use mathlib.Core.Path.{_≡_}
-use mathlib.Core.Bool.{true, cond}
+use mathlib.Core.Bool.{cond}
 use mathlib.Core.List.{List}
 use lib.Dec.{eqb}
 use lib.IntN.{ℤ, _+ℤ_, _-ℤ_}
@@ -18,8 +18,8 @@ use lib.ListN.{length}
 use lib.Signed.{mag}
 use Rattle.range.specs.Below.{filled}
 use Rattle.range.specs.Signed.{entry}
-use Rattle.rules.specs.Shape.{inM, carriers}
-use Rattle.rules.specs.Spectrum.{accepted, stages}
+use Rattle.rules.specs.Shape.{carriers}
+use Rattle.rules.specs.Spectrum.{stages}
 
 abbrev pub addable : ℕ
 addable = 2 ^ 30

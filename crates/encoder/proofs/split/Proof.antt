@@ -11,12 +11,12 @@ use Rattle.rules.specs.Label.{labelPath}
 use Rattle.rules.proofs.Range.{InRange, inShape-range, phases-least, phases-most, pathsInUse-most}
 use Rattle.shape.proofs.Powers.{power-phases}
 use Rattle.words.proofs.Labels.{labelPath-lt}
-use Rattle.encoder.proofs.Divide.{Taken, taken-first, taken-step, taken-path, taken-rows}
+use Rattle.encoder.proofs.Divide.{Divided, divided-first, divided-step, divided-path, divided-rows}
 use Rattle.encoder.proofs.split.Statement.{statement}
 use Rattle.encoder.proofs.split.Tie as tie
 
 abbrev Inv-loop : tie.InvT-loop
-Inv-loop h m label q c₀ rest₀ r₀ c rest r = Taken h m label q r rest c
+Inv-loop h m label q c₀ rest₀ r₀ c rest r = Divided h m label q r rest c
 
 abbrev μ-loop : tie.MeasureT-loop
 μ-loop h m label q c₀ rest₀ r₀ c rest r = r
@@ -50,7 +50,7 @@ div-rest c = omega (arith, base-least c)
 loop-holds : tie.Need-loop-holds Inv-loop μ-loop
 loop-holds c =
     let args = c .before .args in
-    taken-first (args .h) (args .m) (args .label) (c .power .result) (replicate (suc greatestM) 0) (base c) refl
+    divided-first (args .h) (args .m) (args .label) (c .power .result) (replicate (suc greatestM) 0) (base c) refl
 
 rem-c-2 : tie.Need-rem-c-2 Inv-loop μ-loop
 rem-c-2 c = omega (arith, base-least (c .before .before))
@@ -70,7 +70,7 @@ div-rest-2 c = omega (arith, base-least (c .before .before))
 loop-again : tie.Need-loop-again Inv-loop μ-loop
 loop-again c =
     let at-loop = c .before .loop in
-    taken-step _ _ _ _ (at-loop .r) (at-loop .rest) (at-loop .c) (at-loop .inv) (c .loop-test .taken)
+    divided-step _ _ _ _ (at-loop .r) (at-loop .rest) (at-loop .c) (at-loop .inv) (c .loop-test .taken)
     (ranged (c .before .before) .m-most)
 
 -- the function's entry, seen from past the loop
@@ -80,7 +80,7 @@ start c = c .before .before .before
 -- what is left at the end is the path number
 path-is : (c : tie.After-loop Inv-loop μ-loop) →
     let args = start c .args in c .before .loop .rest ≡ labelPath (args .h) (args .m) (args .label)
-path-is c = taken-path _ _ _ _ _ _ (c .before .loop .c) (c .before .loop .inv) (omega (arith, c .loop-test .left))
+path-is c = divided-path _ _ _ _ _ _ (c .before .loop .c) (c .before .loop .inv) (omega (arith, c .loop-test .left))
 
 cast-t10 : tie.Need-cast-t10 Inv-loop μ-loop
 cast-t10 c =
@@ -97,7 +97,7 @@ returns c =
     let at-loop = c .before .loop in
     record {
       path = path-is c;
-      rows = taken-rows _ _ _ _ _ _ (at-loop .c) (at-loop .inv) (omega (arith, c .loop-test .left));
+      rows = divided-rows _ _ _ _ _ _ (at-loop .c) (at-loop .inv) (omega (arith, c .loop-test .left));
     }
 
 pub split-spec : {M : Type 1} → statement M

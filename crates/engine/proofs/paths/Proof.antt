@@ -60,7 +60,8 @@ counted c =
       at .inv .1,
       times-within (at .n) (s .args .z .uses) (s .args .z .size) (c .loop-test .taken),
       all-labels (s .pre .sizes),
-      messages-most (s .args .z .h) (s .args .z .m) (inShape-range (s .args .z .h) (s .args .z .m) (s .pre .sizes .shape)),
+      messages-most (s .args .z .h) (s .args .z .m)
+          (inShape-range (s .args .z .h) (s .args .z .m) (s .pre .sizes .shape)),
     )
 
 path-requires : tie.Need-path-requires Inv-loop μ-loop

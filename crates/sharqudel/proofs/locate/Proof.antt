@@ -12,7 +12,9 @@ returns c =
     carried-inside (refusalCarries (c .before .before .before .args .why)) (e .count) 0 _ (c .if1 .taken) (e .first)
 
 returns-2 : tie.Need-returns-2
-returns-2 c = carried-behind (refusalCarries (c .before .before .before .args .why)) (c .before .before .carries .ensures .count) 0 _ (c .if1 .left)
+returns-2 c =
+    let asked = c .before .before in
+    carried-behind (refusalCarries (asked .before .args .why)) (asked .carries .ensures .count) 0 _ (c .if1 .left)
 
 pub locate-spec : {M : Type 1} → statement M
 locate-spec = tie.close (tie.spec (λ c κs. search needs) returns returns-2)

@@ -12,7 +12,9 @@ returns c =
     carried-inside (refusalCarries (c .before .before .before .args .why)) (e .count) 1 _ (c .if1 .taken) (e .second)
 
 returns-2 : tie.Need-returns-2
-returns-2 c = carried-behind (refusalCarries (c .before .before .before .args .why)) (c .before .before .carries .ensures .count) 1 _ (c .if1 .left)
+returns-2 c =
+    let asked = c .before .before in
+    carried-behind (refusalCarries (asked .before .args .why)) (asked .carries .ensures .count) 1 _ (c .if1 .left)
 
 pub name-spec : {M : Type 1} → statement M
 name-spec = tie.close (tie.spec (λ c κs. search needs) returns returns-2)

@@ -1,6 +1,6 @@
 -- `steps::in_use` meets its contract: for an m in range the paths in use fit 64 bits.
 -- Assumes nothing.
-use mathlib.Core.Path.{_≡_, sym, _∙_}
+use mathlib.Core.Path.{sym, _∙_}
 use borrow.Author.Needs.{needs}
 use borrow.Author.Tests.{not-true, not-false}
 use Rattle.shape.proofs.Powers.{power-uses}

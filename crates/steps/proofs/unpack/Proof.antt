@@ -33,7 +33,8 @@ inside c = omega (arith, c .loop-test .taken, c .before .before .pre)
 loop-again : tie.Need-loop-again Inv-loop μ-loop
 loop-again c =
     let at-loop = c .before .loop in
-    (omega (arith, c .loop-test .taken), filled-turn (at-loop .k) _ zeros (at-loop .p) _ (inside c) (at-loop .inv .1) refl)
+    let next = filled-turn (at-loop .k) _ zeros (at-loop .p) _ (inside c) (at-loop .inv .1) refl in
+    (omega (arith, c .loop-test .taken), next)
 
 returns : tie.Need-returns Inv-loop μ-loop
 unfolding unpacked

@@ -31,7 +31,9 @@ granted c = sym (c .before .before .transform .ensures) ∙ ap judgedTold (c .en
 
 -- so m is in range
 ranged : (c : tie.After-enum-told2) → inM (start c .args .m) ≡ true
-ranged c = let args = start c .args in transform-taken (args .m) (now (args .first)) (now (args .second)) (granted c) .range
+ranged c =
+    let args = start c .args in
+    transform-taken (args .m) (now (args .first)) (now (args .second)) (granted c) .range
 
 n-is : (c : tie.After-power) → c .power .result ≡ carriers (start (c .before) .args .m)
 n-is c = c .power .ensures ∙ power-carriers-of-inM _ (ranged (c .before))

@@ -1,8 +1,8 @@
 -- `transform::transform` meets its contract: a walk of its MIR, by hand. Both areas are lent again to `run` and come
 -- back as it leaves them (Calling.antt), and on each of the three ways out both are given up for good, and the front of
--- one is shared (Handing.antt; entry and exit are in Edges.antt).
--- All that it knows of `run` is that it meets its contract, and of the rules' definitions the laws of AreasAfter.antt. Both
--- areas are spent: the result names their lifetime.
+-- one is shared (Handing.antt; entry and exit are in Edges.antt). All that it knows of `run` is that it meets its
+-- contract, and of the rules' definitions the laws of AreasAfter.antt. Both areas are spent: the result names their
+-- lifetime.
 -- Assumes nothing.
 use Prim.Native.Nat.{ℕ, _<_, _^_, _%_}
 use native.Mathlib.Nat.{mod-lt, lt-of-lt-of-le}

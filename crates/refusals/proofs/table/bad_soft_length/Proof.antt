@@ -1,8 +1,6 @@
 -- `refusals::table::bad_soft_length` meets its contract: N is 2^m, and 2N is 2^(m+1).  Assumes nothing.
-use Prim.Native.Nat.{ℕ, _^_}
-use mathlib.Core.Path.{_≡_, sym, _∙_, ap}
+use mathlib.Core.Path.{ap}
 use mathlib.Core.Bool.{not}
-use lib.Dec.{eqb}
 use borrow.Author.Needs.{needs}
 use borrow.Author.Tests.{eq-eqb, ne-eqb}
 use Rattle.refusals.proofs.Tests.{power-next}

@@ -1,7 +1,7 @@
 -- `refusals::table::bad_symbol` meets its contract: the loop has passed no symbol that is 2^h or more, and stops at the
 -- first. Invariant: i is at most the length, and each symbol before i is below 2^h. Measure: what is left of the word.
 -- Assumes nothing.
-use Prim.Native.Nat.{ℕ, _-_, _^_, _≤_, _<_}
+use Prim.Native.Nat.{ℕ, _-_, _≤_, _<_}
 use native.Mathlib.Omega.{arith}
 use mathlib.Core.Path.{_≡_, sym, _∙_, ap}
 use mathlib.Core.Bool.{Bool, false}

@@ -2,14 +2,13 @@
 -- first, at place N, or at the end, behind which every entry counts as 0. Invariant: i is at most the length, and each
 -- entry before i is accepted. Measure: what is left of the area.
 -- Assumes nothing.
-use Prim.Native.Nat.{ℕ, _-_, _^_, _≤_, _<_}
+use Prim.Native.Nat.{ℕ, _-_, _≤_, _<_}
 use native.Mathlib.Decide.{decLt}
 use native.Mathlib.Omega.{arith}
 use mathlib.Core.Path.{_≡_, sym, _∙_, ap}
-use mathlib.Core.Bool.{Bool, true, false, not}
+use mathlib.Core.Bool.{Bool, false, not}
 use lib.IntN.{ℤ, pos}
 use lib.ListN.{length, List·getD-eq-default}
-use lib.Signed.{mag}
 use mir.Syntax.{w32}
 use mir.ValLaws.{toZ-ofZ}
 use denote.Ref.{now}
@@ -48,7 +47,8 @@ returns : tie.Need-returns Inv-loop μ-loop
 unfolding badValue
 returns c =
     let at = c .before in
-    let end : carriers (start at .args .m) ≤ turn at .loop .i = leb-true _ _ (sym (at .reaches .ensures) ∙ c .if1 .taken) in
+    let end : carriers (start at .args .m) ≤ turn at .loop .i =
+    leb-true _ _ (sym (at .reaches .ensures) ∙ c .if1 .taken) in
     sym (firstBelow-none _ (outside (start at)) (λ k l. turn at .loop .inv .1 k (omega arith)))
 
 -- the same, seen from past the test of the entry, and what that tells of the entry at i

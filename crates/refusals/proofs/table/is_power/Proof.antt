@@ -5,7 +5,8 @@ use native.Mathlib.Omega.{arith}
 use mathlib.Core.Path.{sym}
 use borrow.Author.Needs.{needs}
 use borrow.Author.Tests.{ne-eqb}
-use Rattle.refusals.proofs.Tests.{shift-is, lt-power}
+use Rattle.shape.proofs.Powers.{shift-is}
+use Rattle.refusals.proofs.Tests.{lt-power}
 use Rattle.refusals.proofs.table.is_power.Statement.{statement}
 use Rattle.refusals.proofs.table.is_power.Tie as tie
 

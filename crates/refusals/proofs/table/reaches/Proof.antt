@@ -3,7 +3,8 @@
 use mathlib.Core.Path.{sym}
 use borrow.Author.Needs.{needs}
 use borrow.Author.Tests.{lt-leb}
-use Rattle.refusals.proofs.Tests.{shift-is, lt-power}
+use Rattle.shape.proofs.Powers.{shift-is}
+use Rattle.refusals.proofs.Tests.{lt-power}
 use Rattle.refusals.proofs.table.reaches.Statement.{statement}
 use Rattle.refusals.proofs.table.reaches.Tie as tie
 
