@@ -13,7 +13,8 @@ use Rattle.rules.specs.Path.{IsPath, headOf, lastOf, times}
 use Rattle.rules.specs.Word.{links}
 use Rattle.paths.proofs.Times.{Distinct, times-here, times-tail-le, mem-of-times, distinct-tail, distinct-head}
 use Rattle.paths.proofs.Members.{isPath-isOrder, isPath-within, isPath-unique}
-use Rattle.paths.proofs.LinkedPairs.{onPair, onPair-left, onPair-right, links-swap, links-tail-le}
+unfoldable pub use Rattle.paths.proofs.LinkedPairs.{onPair}
+use Rattle.paths.proofs.LinkedPairs.{onPair-left, onPair-right, links-swap, links-tail-le}
 use Rattle.paths.proofs.LinkedPairs.{links-absent, links-pair-le, second-other, links-first, links-head}
 
 -- in q, x is linked to no number but y
