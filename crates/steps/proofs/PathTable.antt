@@ -34,7 +34,7 @@ pub stepsOf-unused : (m n : ℕ) → inUse m n ≡ false → replicate greatestM
 unfolding stepsOf
 stepsOf-unused m n e = rw e
 
--- a list of digits to base 8 behind the digits of a
+-- the number whose digits to base 8 are those of a, and then the list's
 unfoldable pub packed : ℕ → List ℕ → ℕ
 packed a [] = a
 packed a (x ∷ p) = packed (a * 8 + x) p

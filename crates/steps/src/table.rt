@@ -5,7 +5,7 @@ use shape::STEPS;
 pub(super) const USED: usize = 43;
 
 // In dictionary order, those of m = 2 first, then those of m = 3, and so on. The steps of a path are the digits of its
-// number to base 8, the first step the highest.
+// number to base 8, the first step the highest: 0o1243 is the path 1, 2, 4, 3.
 pub(super) const PATHS: [u32; USED] = [
     0o12,
     0o123,
