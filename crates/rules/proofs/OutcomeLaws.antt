@@ -1,5 +1,5 @@
 -- Laws of outcomes: rules' Outcome. In order: what is given is not refused, and is one thing; where something is
--- given, no test of the table held, and no place was found; a claim about an outcome, test by test; a test after
+-- given, no test of the table held, and no place was found, and back; a claim about an outcome, test by test; a test after
 -- others, and two tests of one number; only one outcome is answered.  Assumes nothing.
 use Prim.Native.Nat.{ℕ}
 use native.Mathlib.Omega.{arith}
@@ -24,6 +24,13 @@ module _ {A : Type 0} where
       refuseAt k f more o ≡ gives a → (f ≡ none) × (o ≡ gives a)
   refuseAt-gives k none more o a e = (refl, e)
   refuseAt-gives k (some i) more o a e = absurd (gives-not-refuses (sym e))
+
+  -- and a test that does not hold, or finds no place, leaves what stands behind it
+  pub refuse-passed : (k : ℕ) {t : Bool} (o : Outcome A) → t ≡ false → refuse k t o ≡ o
+  refuse-passed k o e = ap (λ (t : Bool). refuse k t o) e
+
+  pub refuseAt-passed : (k : ℕ) {f : Option ℕ} (more : List ℕ) (o : Outcome A) → f ≡ none → refuseAt k f more o ≡ o
+  refuseAt-passed k more o e = ap (λ (f : Option ℕ). refuseAt k f more o) e
 
   -- a claim holds of an outcome where it holds whichever way its first test goes
   pub refuse-cases : (P : Outcome A → Type 0) (k : ℕ) (t : Bool) (o : Outcome A) →

@@ -5,8 +5,8 @@
 -- Assumes nothing.
 use Prim.Native.Nat.{ℕ, _≤_, _<_}
 use native.Mathlib.Omega.{arith}
-use mathlib.Core.Path.{_≡_, sym, ap}
-use mathlib.Core.Bool.{Bool, true, not, _||_}
+use mathlib.Core.Path.{_≡_, sym, _∙_, ap}
+use mathlib.Core.Bool.{Bool, true, false, not, _||_}
 use mathlib.Core.List.{List, [], _∷_}
 use lib.IntN.{ℤ}
 use lib.ListN.{length}
@@ -24,7 +24,7 @@ use Rattle.rules.specs.Table.{badValue}
 use Rattle.rules.specs.Refusal.{sendRefusal, pairRefusal, refuseWord, wordRefusal, softRefusal, hardRefusal}
 use Rattle.rules.specs.Refusal.{transformRefusal}
 use Rattle.rules.proofs.Range.{inShape-range}
-use Rattle.rules.proofs.OutcomeLaws.{refuse-gives, refuseAt-gives}
+use Rattle.rules.proofs.OutcomeLaws.{refuse-gives, refuseAt-gives, refuse-passed, refuseAt-passed}
 use Rattle.rules.proofs.SymbolLaws.{symbols-of-none, symbols-none}
 
 pub record SendTaken (h m n g : ℕ) : Type 0 where
@@ -34,7 +34,9 @@ pub record SendTaken (h m n g : ℕ) : Type 0 where
 
 pub send-allowed : (h m n g : ℕ) → SendTaken h m n g → sendRefusal h m n g ≡ allowed
 unfolding sendRefusal
-send-allowed h m n g t = rw (t .shape, eq-eqb n (carriers m) (t .long), lt-leb (messages h m) g (t .message))
+send-allowed h m n g t =
+    refuse-passed 1 _ (ap not (t .shape)) ∙ refuse-passed 2 _ (ap not (eq-eqb n (carriers m) (t .long)))
+    ∙ refuse-passed 4 allowed (lt-leb (messages h m) g (t .message))
 
 pub send-taken : (h m n g : ℕ) → sendRefusal h m n g ≡ allowed → SendTaken h m n g
 unfolding sendRefusal
@@ -50,7 +52,9 @@ send-taken h m n g e =
 
 -- one word, in a shape in range
 refuseWord-allowed : (h m : ℕ) (w : List ℕ) → Symbols h m w → refuseWord h m w allowed ≡ allowed
-refuseWord-allowed h m w s = rw (eq-eqb (length w) (carriers m) (s .long), sym (symbols-none h m w s))
+refuseWord-allowed h m w s =
+    refuse-passed 2 _ (ap not (eq-eqb (length w) (carriers m) (s .long)))
+    ∙ refuseAt-passed 3 [] allowed (sym (symbols-none h m w s))
 
 refuseWord-taken : (h m : ℕ) (w : List ℕ) → inShape h m ≡ true → refuseWord h m w allowed ≡ allowed → Symbols h m w
 refuseWord-taken h m w shape e =
@@ -60,7 +64,8 @@ refuseWord-taken h m w shape e =
 
 pub word-allowed : (h m : ℕ) (w : List ℕ) → Symbols h m w → wordRefusal h m w ≡ allowed
 unfolding wordRefusal
-word-allowed h m w s = rw (s .shape) (refuseWord-allowed h m w s)
+word-allowed h m w s =
+    refuse-passed 1 _ (ap not (s .shape)) ∙ refuseWord-allowed h m w s
 
 pub word-taken : (h m : ℕ) (w : List ℕ) → wordRefusal h m w ≡ allowed → Symbols h m w
 unfolding wordRefusal
@@ -71,13 +76,11 @@ word-taken h m w e =
 pub pair-allowed : (h m : ℕ) (a b : List ℕ) → Symbols h m a → Symbols h m b → pairRefusal h m a b ≡ allowed
 unfolding pairRefusal
 pair-allowed h m a b p q =
-    rw (
-      p .shape,
-      eq-eqb (length a) (carriers m) (p .long),
-      eq-eqb (length b) (carriers m) (q .long),
-      sym (symbols-none h m a p),
-      sym (symbols-none h m b q),
-    )
+    let long : (badLength (length a) (carriers m) || badLength (length b) (carriers m)) ≡ false =
+    rw (eq-eqb (length a) (carriers m) (p .long), eq-eqb (length b) (carriers m) (q .long)) in
+    refuse-passed 1 _ (ap not (p .shape)) ∙ refuse-passed 2 _ long
+    ∙ refuseAt-passed 3 (1 ∷ []) _ (sym (symbols-none h m a p))
+    ∙ refuseAt-passed 3 (2 ∷ []) allowed (sym (symbols-none h m b q))
 
 pub pair-taken : (h m : ℕ) (a b : List ℕ) → pairRefusal h m a b ≡ allowed → Symbols h m a × Symbols h m b
 unfolding pairRefusal
@@ -105,7 +108,8 @@ pub record SoftTaken (h m : ℕ) (ys : List ℤ) : Type 0 where
 pub soft-allowed : (h m : ℕ) (ys : List ℤ) → SoftTaken h m ys → softRefusal h m ys ≡ allowed
 unfolding softRefusal
 soft-allowed h m ys t =
-    rw (t .shape, ne-eqb h 3 (λ e. omega (arith, t .few)), eq-eqb (length ys) (softLength h m) (t .long))
+    refuse-passed 1 _ (ap not (t .shape)) ∙ refuse-passed 6 _ (ne-eqb h 3 (λ e. omega (arith, t .few)))
+    ∙ refuse-passed 2 allowed (ap not (eq-eqb (length ys) (softLength h m) (t .long)))
 
 pub soft-taken : (h m : ℕ) (ys : List ℤ) → softRefusal h m ys ≡ allowed → SoftTaken h m ys
 unfolding softRefusal
@@ -127,7 +131,8 @@ pub record HardTaken (h m : ℕ) (w : List ℕ) : Type 0 where
 pub hard-allowed : (h m : ℕ) (w : List ℕ) → HardTaken h m w → hardRefusal h m w ≡ allowed
 unfolding hardRefusal
 hard-allowed h m w t =
-    rw (t .symbols .shape, ne-eqb h 3 (λ e. omega (arith, t .few))) (refuseWord-allowed h m w (t .symbols))
+    refuse-passed 1 _ (ap not (t .symbols .shape)) ∙ refuse-passed 6 _ (ne-eqb h 3 (λ e. omega (arith, t .few)))
+    ∙ refuseWord-allowed h m w (t .symbols)
 
 pub hard-taken : (h m : ℕ) (w : List ℕ) → hardRefusal h m w ≡ allowed → HardTaken h m w
 unfolding hardRefusal
@@ -146,12 +151,10 @@ pub record TransformTaken (m : ℕ) (a b : List ℤ) : Type 0 where
 pub transform-allowed : (m : ℕ) (a b : List ℤ) → TransformTaken m a b → transformRefusal m a (length b) ≡ allowed
 unfolding transformRefusal badValue
 transform-allowed m a b t =
-    rw (
-      t .range,
-      le-ltb (length a) (carriers m) (t .first),
-      le-ltb (length b) (carriers m) (t .second),
-      firstBelow-none (carriers m) _ (λ i l. ap not (t .values i l)),
-    )
+    let long : (shortArea (length a) m || shortArea (length b) m) ≡ false =
+    rw (le-ltb (length a) (carriers m) (t .first), le-ltb (length b) (carriers m) (t .second)) in
+    refuse-passed 1 _ (ap not (t .range)) ∙ refuse-passed 2 _ long
+    ∙ refuseAt-passed 7 [] allowed (firstBelow-none (carriers m) _ (λ i l. ap not (t .values i l)))
 
 pub transform-taken : (m : ℕ) (a b : List ℤ) → transformRefusal m a (length b) ≡ allowed → TransformTaken m a b
 unfolding transformRefusal badValue
