@@ -3,9 +3,9 @@
 -- a claim about all below n, one more; all, from each place, at each place, refuted; the first, found, not found, and
 -- back.
 -- Not here: sums and counts (Sums), lists (Lists).  Assumes nothing.
-use Prim.Native.Nat.{ℕ, zero, suc, _+_, _<_, zero-le, suc-le-suc}
+use Prim.Native.Nat.{ℕ, zero, suc, _+_, _≤_, _<_, zero-le, suc-le-suc}
 use native.Mathlib.Nat.{not-suc-le-zero, le-of-suc-le-suc}
-use native.Mathlib.Decide.{ℕ-discrete}
+use native.Mathlib.Decide.{ℕ-discrete, decLt}
 use native.Mathlib.Omega.{arith}
 use mathlib.Core.Path.{_≡_, refl, sym, _∙_, subst}
 use mathlib.Core.Bool.{Bool, true, false, not, _&&_, _||_, false≢true}
@@ -144,3 +144,18 @@ firstBelow-nowhere n f e = of (subst (Found n f) e (found n f))
   where
     of : Found n f none → (i : ℕ) → i < n → f i ≡ false
     of (nowhere a) = a
+
+-- further on nothing passes, so that looking further finds nothing more
+pub firstBelow-more : (n k : ℕ) (f : ℕ → Bool) → n ≤ k → ((i : ℕ) → n ≤ i → f i ≡ false) →
+    firstBelow k f ≡ firstBelow n f
+firstBelow-more n k f h rest = go (firstBelow n f) refl
+  where
+    all : firstBelow n f ≡ none → (i : ℕ) → Dec (i < n) → f i ≡ false
+    all e i (yes l) = firstBelow-nowhere n f e i l
+    all e i (no l) = rest i (omega arith)
+
+    go : (o : Option ℕ) → firstBelow n f ≡ o → firstBelow k f ≡ o
+    go none e = firstBelow-none k f (λ i _. all e i (decLt i n))
+    go (some i) e =
+        let found = firstBelow-at n f i e in
+        firstBelow-some k f i (omega (arith, found .0)) (found .1 .0) (found .1 .1)

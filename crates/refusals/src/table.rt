@@ -3,7 +3,7 @@
 use crate::Search;
 use kinds::MessageNumber;
 use kinds::Place;
-ghost use Prim.Native.Nat.{_^_, _<_};
+ghost use Prim.Native.Nat.{_^_, _<_, _≤_, min};
 ghost use mathlib.Core.Path.{_≡_};
 ghost use mathlib.Core.Bool.{not};
 ghost use lib.Dec.{eqb, leb};
@@ -90,16 +90,31 @@ pub(super) fn bad_symbol(h: u32, word: &[u8]) -> Search
     Search::Nowhere
 }
 
-// 7: the first of the first N entries that is no input. Where the area is shorter there is nothing behind its end.
+// 7: the first of the first N entries that is no input. Of a shorter area all are looked at.
 pub(super) fn bad_value(m: u32, area: &[i32]) -> Search
     ensures { λ r. ⌜ searchTold r ≡ badValue m (now (area .entry)) ⌝ }
 {
-    let e = m as u64;
+    first_outside(looked_at(area.len(), m), area)
+}
+
+// The lesser of n and N.
+fn looked_at(n: usize, m: u32) -> usize
+    ensures { λ r. ⌜ r ≡ min n (carriers m) ⌝ }
+{
+    if reaches(n as u64, m as u64) {
+        shape::power(m) as usize
+    } else {
+        n
+    }
+}
+
+// The first of the first n entries that is out of range.
+fn first_outside(n: usize, area: &[i32]) -> Search
+    requires { ⌜ n ≤ length (now area) ⌝ }
+    ensures { λ r. ⌜ searchTold r ≡ firstBelow n (λ i. not (accepted (entry (now (area .entry)) i))) ⌝ }
+{
     let mut i = 0;
-    while i < area.len() {
-        if reaches(i as u64, e) {
-            return Search::Nowhere;
-        }
+    while i < n {
         if !takes(at(area, i)) {
             return Search::At(Place(i));
         }
