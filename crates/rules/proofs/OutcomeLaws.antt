@@ -1,6 +1,6 @@
 -- Laws of outcomes: rules' Outcome. In order: what is given is not refused, and is one thing; where something is
--- given, no test of the table held, and no place was found, and back; a claim about an outcome, test by test; a test after
--- others, and two tests of one number; only one outcome is answered.  Assumes nothing.
+-- given, no test of the table held, and no place was found, and back; a claim about an outcome, test by test; a test
+-- after others, and two tests of one number; only one outcome is answered.  Assumes nothing.
 use Prim.Native.Nat.{ℕ}
 use native.Mathlib.Omega.{arith}
 use mathlib.Core.Path.{_≡_, refl, sym, _∙_, ap}
