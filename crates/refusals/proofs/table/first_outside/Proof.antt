@@ -1,5 +1,5 @@
--- `refusals::table::first_outside` meets its contract: the loop has passed no entry that is out of range, and stops at the
--- first. Invariant: i is at most n, and each entry before i is accepted. Measure: what is left of the n entries.
+-- `refusals::table::first_outside` meets its contract: the loop has passed no entry that is out of range, and stops at
+-- the first. Invariant: i is at most n, and each entry before i is accepted. Measure: what is left of the n entries.
 -- Assumes nothing.
 use Prim.Native.Nat.{ℕ, _-_, _≤_, _<_}
 use native.Mathlib.Omega.{arith}
