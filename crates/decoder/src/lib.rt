@@ -26,6 +26,7 @@ ghost use Rattle.rules.specs.Decoding.{Loud, Near};
 ghost use Rattle.answers.specs.Decoded.{loudestTold, closestTold, Hears, Matches};
 ghost use Rattle.totals.specs.Gains.{raiseBy, raised, softGain, hardGain, nearness, tableOf};
 ghost use Rattle.standing.specs.Lead.{tiedOf};
+ghost use Rattle.engine.specs.Search.{greatestDecoded};
 
 // The greatest table of gains: a run of places for each symbol of the most phases that are decoded.
 const GAINS: usize = PLACES << GREATEST_DECODED;
@@ -43,7 +44,7 @@ pub fn soft(h: u32, m: u32, values: &[i16]) -> Heard
         return Heard::Refused(why);
     }
     let mut gains = [0u32; GAINS];
-    let n = shape::power(h + m) as usize;
+    let n = gains_of(h, m);
     Heard::Found(hear(h, m, values, &mut gains[..n]))
 }
 
@@ -57,8 +58,16 @@ pub fn hard(h: u32, m: u32, word: &[u8]) -> Matched
         return Matched::Refused(why);
     }
     let mut gains = [0u32; GAINS];
-    let n = shape::power(h + m) as usize;
+    let n = gains_of(h, m);
     Matched::Found(weigh(h, m, word, &mut gains[..n]))
+}
+
+// How many gains the table of a shape has; the greatest table has room for them.
+fn gains_of(h: u32, m: u32) -> usize
+    requires { ⌜ (inShape h m ≡ true) × (h ≤ greatestDecoded) ⌝ }
+    ensures { λ r. ⌜ (r ≡ phases h * carriers m) × (r ≤ phases greatestDecoded * carriers greatestM) ⌝ }
+{
+    shape::power(h + m) as usize
 }
 
 // The answer of soft decoding where nothing is refused, by way of an area for the gains.
