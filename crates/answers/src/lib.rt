@@ -1,6 +1,8 @@
 // What decoding answers: the message that is found, its correlation or its distance, and whether it is tied, or the
 // refusal. Every decoder answers in these, however it searches: document 01 "What the receiver hears". What each says
 // in the document's terms, and the promises over it, are definitions in specs/Decoded.antt.
+#![tactic(auto)]
+
 use kinds::{MessageNumber, Refusal};
 
 // The word of greatest correlation: its message, its correlation, and whether another word has it too.

@@ -1,5 +1,7 @@
 // A caller's view of the transform: it uses the part, and then, once the part is over, the two areas. Its own contract
 // is plain and says both areas whole, so the resource in the transform's promise tells its callers all that they hold.
+#![tactic(auto)]
+
 ghost use Rattle.std.specs.Prelude.{◌≡◌, cond};
 ghost use Rattle.range.specs.Signed.{entry};
 ghost use Rattle.rules.specs.Areas.{in_first};

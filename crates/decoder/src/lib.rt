@@ -3,6 +3,8 @@
 // (totals, specs/Gains.antt), and has the engine find the label of greatest total. Nothing is negated, and a soft value
 // is widened before anything is added to it. Equals go to the earliest label. The answers, and what the contracts cite
 // of them, stand in the crate answers.
+#![tactic(auto)]
+
 ghost use Rattle.std.specs.Prelude.{ℕ, ◌+◌, ◌-◌, ◌*◌, ◌≤◌, ◌<◌, ◌≡◌, true, pos, ◌-ℤ◌, length};
 ghost use Rattle.std.specs.Int.Signed.{mag};
 ghost use Rattle.range.specs.Signed.{entry};

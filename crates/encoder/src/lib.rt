@@ -1,6 +1,8 @@
 // Encode and partner: document 01 "What a logger may send" and "The partner and the pair check", 001 Corollary 4.
 // Both refuse 1, 2 and 4, in that order, and a refusal writes nothing. The rows of the generator are combined place by
 // place; the partner adds 2^(h-1) of row p(1). Contracts cite specs/Sent.antt, and for the steps specs/Arrays.antt.
+#![tactic(auto)]
+
 ghost use Rattle.std.specs.Prelude.{◌+◌, ◌-◌, ◌*◌, ◌%◌, ◌≤◌, ◌<◌, ◌≡◌, true, length};
 ghost use Rattle.range.specs.Below.{list_below};
 ghost use Rattle.rules.specs.Shape.{carriers, in_shape, half_turn, greatest_m};

@@ -3,6 +3,8 @@
 // digit of the places with all values of its coefficient, until there is a number for each label, its total (totals,
 // specs/Climb.antt and Totals.antt). The labels are gone through in their order, path after path, and the best and the
 // second best are kept (standing). Contracts cite specs/Search.antt, and for the steps specs/SearchTables.antt.
+#![tactic(auto)]
+
 mod scan;
 mod stages;
 mod turning;

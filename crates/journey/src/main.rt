@@ -2,6 +2,8 @@
 // word with two symbols changed, which is refused in reading and found by hard decoding; then soft values of the word
 // with noise, and soft decoding. Document 01: "What a logger may send", "The partner and the pair check", "What the
 // receiver hears". The word is the last starred one of 01's "Known words" for h = 2 and m = 4.
+#![tactic(auto)]
+
 use answers::{Closest, Heard, Loudest, Matched};
 use encoder::Written;
 use kinds::{MessageNumber, Refusal};

@@ -1,6 +1,8 @@
 // The kinds of number that must not be mixed up, and the refusals of document 01's table with what each tells: its
 // number, and the numbers that it carries. Whoever prints or hands on a refusal asks `number` and `carries`; a new
 // number is a case of the enum, with its lines there and in specs/Refusals.antt.
+#![tactic(auto)]
+
 ghost use Rattle.std.specs.Prelude.{◌≡◌};
 ghost use Rattle.kinds.specs.Refusals.{refusal_number, refusal_carries, Carries};
 

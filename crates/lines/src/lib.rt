@@ -2,6 +2,8 @@
 // begins with # is copied, and any other that is no call is answered `not a case`. Nothing of an answer is written
 // before the whole line is read. Words, values and areas hold the calls, telling what those of words and values answer,
 // parse, symbols and entries the pieces of a line. tests/cases.md says the form of a line and of its answer.
+#![tactic(auto)]
+
 use libc::STDIN_FILENO;
 use show::say;
 

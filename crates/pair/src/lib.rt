@@ -1,6 +1,8 @@
 // The pair check of document 01: whether two words cancel at every shift and phase.
 // `check` asks whether the words are refused; each other function counts, or compares counts.
 // What the answer says in the document's terms is in specs/Paired.antt, and what is counted in rules, specs/Pair.antt.
+#![tactic(auto)]
+
 ghost use Rattle.std.specs.Prelude.{ℕ, ◌≤◌, ◌≡◌, length};
 ghost use Rattle.rules.specs.Shape.{greatest_h, carriers};
 ghost use Rattle.rules.specs.Pair.{phase_count, pair_count, golay_pair, phases_agree};

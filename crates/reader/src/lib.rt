@@ -1,5 +1,7 @@
 // Word reading: document 01 "What the receiver hears". The coefficients are read off the word, and what is left is
 // compared with the paths in use, so that not every message is tried. Contracts cite specs/Reading.antt and Shown.antt.
+#![tactic(auto)]
+
 ghost use Rattle.std.specs.Prelude.{◌<◌, ◌≡◌, true, length};
 ghost use Rattle.rules.specs.Shape.{messages};
 ghost use Rattle.rules.specs.Word.{word_of};

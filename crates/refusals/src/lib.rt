@@ -4,6 +4,8 @@
 // Each goes down the tests of its call, the first of them first; a new one is a line between two others. A slice is
 // looked through only where nothing is refused before; the other tests cost nothing, and say what they say of every
 // argument.
+#![tactic(auto)]
+
 mod table;
 
 ghost use Rattle.std.specs.Prelude.{◌≡◌, cond, [], ◌∷◌, length};

@@ -36,9 +36,9 @@ refused_one : (h m : ℕ) → bad_shape h m ≡ true → Refused1 h m
 unfolding send_refusal pair_outcome pair_refusal read_outcome word_refusal soft_refusal hard_refusal
 refused_one h m e n g a b ys = (rw e, rw e, rw e, rw e, rw e)
 
-outside_m : (m : ℕ) → in_m m ≡ false → Right (outside_m m)
+outside_m_lem : (m : ℕ) → in_m m ≡ false → Right (outside_m m)
 unfolding transform_refusal
-outside_m m e = (λ h. refused_one h m (rw (e, and-false (in_h h))), λ y n. rw e)
+outside_m_lem m e = (λ h. refused_one h m (rw (e, and-false (in_h h))), λ y n. rw e)
 
 soft_right : Right (soft 1 2 four_least (record { message = 1; value = pos 65536; tied = true }) (3 ∷ 5 ∷ 6 ∷ []))
 unfolding
@@ -91,5 +91,5 @@ known =
     & (refl, refl) & (refl, refl) & (refl, refl) & (refl, refl)
     & (refl, refl) & (refl, refl) & (refl, refl)
     & refl & refl & refl & refl
-    & outside_m 1 refl & outside_m 6 refl & (λ m. refused_one 0 m refl) & (λ m. refused_one 4 m refl)
+    & outside_m_lem 1 refl & outside_m_lem 6 refl & (λ m. refused_one 0 m refl) & (λ m. refused_one 4 m refl)
     & soft_right & (refl, refl) & silence_right & hard_right & refl & tt

@@ -1,6 +1,8 @@
 // The ranges of h and m, and the numbers that a shape gives, as code.
 // No function here has a requires: each says what it gives for every number that it takes.
 // The greatest h, the greatest m and the table w stand here alone; their definitions are in rules, specs/Shape.antt.
+#![tactic(auto)]
+
 ghost use Rattle.std.specs.Prelude.{◌^◌, min, ◌≡◌, true, false, cond, ltb};
 ghost use Rattle.rules.specs.Shape.{path_bits, in_m, in_shape};
 ghost use Rattle.rules.specs.Label.{label_of, message_of};

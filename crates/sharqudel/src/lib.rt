@@ -5,6 +5,8 @@
 // which word. A cell that an answer has nothing for stays as it was.
 // Each call hands on to one of the crates below and takes its answer apart. Contracts cite specs/Out.antt and
 // Crossing.antt.
+#![tactic(auto)]
+
 ghost use Rattle.std.specs.Prelude.{◌≡◌, length, get_or};
 ghost use Rattle.rules.specs.Word.{word_of, partner_of};
 ghost use Rattle.rules.specs.Refusal.{pair_outcome, read_outcome, transform_refusal};

@@ -1,5 +1,7 @@
 // Writes text, numbers, words, areas, soft values and refusals to standard output, for the programs. No contract can
 // speak of what is written; each function is proved to stay within its slice and to end.
+#![tactic(auto)]
+
 use kinds::Refusal;
 use libc::STDOUT_FILENO;
 

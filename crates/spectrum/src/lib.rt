@@ -1,1 +1,2 @@
 // Laws of the spectrum and its stages: crate rules, specs/Spectrum.antt. Laws alone, no code.
+#![tactic(auto)]

@@ -1,6 +1,8 @@
 // Where a search stands: the best value so far, the second best, and the label of the best.
 // The values are gone through in the order of their labels. Equals go to the earliest label, so a value must be above
 // the best to take its place. Tied is best equal to second. Contracts cite specs/Lead.antt.
+#![tactic(auto)]
+
 ghost use Rattle.std.specs.Prelude.{◌≡◌};
 ghost use Rattle.standing.specs.Lead.{better};
 

@@ -1,5 +1,7 @@
 // The steps of the paths in use: document 01 "What a logger may send". A path is one number of a table (table), which
 // is checked against the rules as a whole (proofs/PathTable.antt). The laws of all paths stand in crate paths.
+#![tactic(auto)]
+
 mod table;
 
 ghost use Rattle.std.specs.Prelude.{◌≤◌, ◌≡◌};

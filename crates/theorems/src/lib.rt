@@ -1,5 +1,7 @@
 // The theorems about the words and the calls of document 01: specs/Theorems.antt gathers them, a file for each demand.
 // No code but one empty function, which says once what is true by the type alone.
+#![tactic(auto)]
+
 ghost use Rattle.std.specs.Prelude.{◌≡◌};
 
 // A slice lent for reading is afterwards what it was, whatever is done with it: a function cannot write through it.

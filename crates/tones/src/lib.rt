@@ -1,6 +1,8 @@
 // Soft values for the programs: what a receiver could hear of a word, or of nothing but noise. 01 "What the receiver
 // hears". Noise comes from a linear congruential generator, so a seed gives the same values everywhere. Contracts cite
 // specs/Tones.antt, which says how a value is made.
+#![tactic(auto)]
+
 ghost use Rattle.std.specs.Prelude.{◌≤◌, ◌≡◌, get_or};
 ghost use Rattle.tones.specs.Tones.{next, bounded, side, tone, moved, lowered, Sounded};
 

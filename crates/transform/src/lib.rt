@@ -6,6 +6,8 @@
 // `refusals::transform` answers which refusal it is.
 // Contracts cite rules, specs/Areas.antt and Spectrum.antt; of this crate specs/Transformed.antt and, for the steps,
 // Butterflies.antt.
+#![tactic(auto)]
+
 ghost use Rattle.std.specs.Prelude.{◌+◌, ◌≤◌, ◌<◌, ◌≡◌, ◌+ℤ◌, ◌-ℤ◌, length};
 ghost use Rattle.std.specs.Borrow.{sem};
 ghost use Rattle.std.specs.Int.{w32};

@@ -1,5 +1,7 @@
 // Round trips as code: what a sender and a receiver call one after the other, and what comes back. That it comes back
 // is a theorem of the index (crate theorems), here of the very calls. What they promise is in specs/Trips.antt.
+#![tactic(auto)]
+
 ghost use Rattle.trips.specs.Trips.{ReadBack, HardBack, CheckBack};
 
 use answers::Matched;
