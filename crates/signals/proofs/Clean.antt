@@ -31,10 +31,10 @@ soft_length_half (suc (suc (suc h))) m a b = absurd (omega (arith, b))
 shown : ℕ → ℕ → ℕ → ℕ → ℤ
 shown a x r t = cond (eqb x r) (pos a) (cond (eqb x t) (neg_ℤ (pos a)) (pos 0))
 
-clean_at : (h m a : ℕ) (w : List ℕ) (i r : ℕ) → 1 ≤ h → h ≤ 2 → i < carriers m → r < half_turn h →
+clean_at_lem : (h m a : ℕ) (w : List ℕ) (i r : ℕ) → 1 ≤ h → h ≤ 2 → i < carriers m → r < half_turn h →
     entry (clean h m a w) (half_turn h * i + r) ≡ shown a (symbol_at w i) r (r + half_turn h)
 unfolding clean clean_at shown
-clean_at h m a w i r one two p q =
+clean_at_lem h m a w i r one two p q =
     let e : half_turn h * i + r ≡ i * half_turn h + r = omega arith in
     let l : i * half_turn h + r < soft_length h m = rw (soft_length_half h m one two) (digits_lt p q) in
     rw e (list_below_at (soft_length h m) (clean_at h a w) (i * half_turn h + r) (pos 0) l
@@ -76,6 +76,6 @@ unfolding shown
 heard_clean h m a w i s one two p q =
     heard_half h (clean h m a w) i s one two q
     ∙ ap (negated_if (leb (half_turn h) s))
-    (clean_at h m a w i (s % half_turn h) one two p (mod-lt s (pow_pos (h - 1))))
+    (clean_at_lem h m a w i (s % half_turn h) one two p (mod-lt s (pow_pos (h - 1))))
     ∙ shown_half a (symbol_at w i) (half_turn h) s (pow_pos (h - 1)) (rw (phases_half h one) at q)
     ∙ ap (λ (n : ℕ). shown a (symbol_at w i) s ((s + half_turn h) % n)) (sym (phases_half h one))

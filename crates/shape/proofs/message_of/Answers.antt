@@ -2,12 +2,8 @@
 -- Assumes nothing.
 use mathlib.Core.Path.{refl}
 use Rattle.rules.specs.Label.{message_of}
-use Rattle.shape.proofs.message_of.Statement.{statement}
-use Rattle.shape.proofs.message_of.Tie as tie
+use Rattle.shape.proofs.message_of.Goals as goal
 
-returns : tie.Need-returns
+pub returns : goal.returns
 unfolding message_of
 returns c = (λ _. refl, λ _. refl)
-
-pub message-of-spec : {M : Type 1} → statement M
-message-of-spec = tie.close (tie.spec returns)

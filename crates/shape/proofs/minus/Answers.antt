@@ -4,10 +4,9 @@ use Prim.Native.Nat.{ℕ, ◌+◌, ◌-◌, ◌%◌, ◌≤◌, ◌<◌, min}
 use native.Mathlib.Nat.{mod-eq_of_lt, mod-zero, add-mod_right}
 use native.Mathlib.Omega.{arith}
 use mathlib.Core.Path.{◌≡◌, sym, ◌∙◌, ap}
-use borrow.Author.Rules.{rules}
 use Rattle.rules.specs.Pair.{minus}
-use Rattle.shape.proofs.minus.Statement.{statement}
-use Rattle.shape.proofs.minus.Tie as tie
+use Rattle.shape.proofs.minus.Goals.{After-lesser-y, Else-x-y, Start}
+use Rattle.shape.proofs.minus.Goals as goal
 
 -- by whether a is less than q and b; modulo 0
 module _ (q a b x y : ℕ) (is-a : x ≡ a) (is-least : y ≡ min q b) where
@@ -30,37 +29,31 @@ module _ (q a b x y : ℕ) (is-a : x ≡ a) (is-least : y ≡ min q b) where
       rw (e, z) (sym (mod-zero x))
 
 -- what is taken away: b, at most q
-abbrev start : tie.After-lesser → tie.Start
+abbrev start : After-lesser-y → Start
 start c = c.before.before.before
 
-least : (c : tie.After-lesser) → c.lesser.result ≡ min (start c).args.q (start c).args.b
-least c = c.lesser.ensures ∙ ap (min (start c).args.q) c.before.wide2.ensures
+least : (c : After-lesser-y) → c.lesser-y.result ≡ min (start c).args.q (start c).args.b
+least c = c.lesser-y.ensures ∙ ap (min (start c).args.q) c.wide.ensures
 
-returns : tie.Need-returns
-returns c =
+pub returns-then-x-y : goal.returns-then-x-y
+returns-then-x-y c =
     let at = c.before in
-    minus-below _ _ _ _ _ at.before.before.wide.ensures (least at) c.if1.true
+    minus-below _ _ _ _ _ at.wide-x.ensures (least at) c.if-x-y.true
 
 -- what a leaves, modulo q
-left : (c : tie.Else1) → let at = c.before in let args = (start at).args in
-    (at.before.before.wide.result - at.lesser.result) % args.q ≡ minus args.q args.a args.b
+left : (c : Else-x-y) → let at = c.before in let args = (start at).args in
+    (at.wide-x.result - at.lesser-y.result) % args.q ≡ minus args.q args.a args.b
 left c =
     let at = c.before in
-    minus-above _ _ _ _ _ at.before.before.wide.ensures (least at) c.if1.false
+    minus-above _ _ _ _ _ at.wide-x.ensures (least at) c.if-x-y.false
 
-returns-2 : tie.Need-returns-2
-returns-2 c = sym (mod-eq_of_lt c.if2.true) ∙ left c.before
+pub returns-then-d-q : goal.returns-then-d-q
+returns-then-d-q c = sym (mod-eq_of_lt c.if-d-q.true) ∙ left c.before
 
-returns-3 : tie.Need-returns-3
-returns-3 c =
+pub returns-then-q-eq0 : goal.returns-then-q-eq0
+returns-then-q-eq0 c =
     let at = c.before.before.before in
-    minus-none _ _ _ _ _ at.before.before.wide.ensures (least at) c.if3.true
+    minus-none _ _ _ _ _ at.wide-x.ensures (least at) c.if-q-eq0.true
 
-returns-4 : tie.Need-returns-4
-returns-4 c = left c.before.before
-
-pub minus-spec : {M : Type 1} → statement M
-minus-spec =
-    tie.close
-    (tie.spec (λ c. search rules) (λ c. search rules) (λ c. search rules) (λ c. search rules) (λ c. search rules)
-    returns returns-2 returns-3 (λ c. search rules) returns-4)
+pub returns : goal.returns
+returns c = left c.before.before
