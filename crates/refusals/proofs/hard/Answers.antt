@@ -1,0 +1,17 @@
+-- `refusals::hard` meets its contract: test after test, as the rules nest them.  Assumes nothing.
+use mathlib.Core.Path.{◌∙◌}
+use Rattle.rules.specs.Refusal.{hard_refusal}
+use Rattle.rules.proofs.OutcomeLaws.{and_then_refuse}
+use Rattle.refusals.proofs.Rungs.{after, after_test}
+use Rattle.refusals.proofs.hard.Goals as goal
+
+pub returns : goal.returns
+unfolding hard_refusal
+returns c =
+    let length = c.before in
+    let octary = length.before.before in
+    let shape = octary.before.before in
+    after _ c.symbols.ensures
+    (after_test 2 length.then-asked-2.ensures length.bad_length.ensures
+    (after_test 6 octary.then-asked.ensures octary.is_octary.ensures shape.in_shape-asked.ensures))
+    ∙ simp and_then_refuse
