@@ -8,10 +8,7 @@ use Rattle.refusals.proofs.hard.Goals as goal
 pub returns : goal.returns
 unfolding hard_refusal
 returns c =
-    let length = c.before in
-    let octary = length.before.before in
-    let shape = octary.before.before in
     after _ c.symbols.ensures
-    (after_test 2 length.then-asked-2.ensures length.bad_length.ensures
-    (after_test 6 octary.then-asked.ensures octary.is_octary.ensures shape.in_shape-asked.ensures))
+    (after_test 2 c.then-asked-2.ensures c.bad_length.ensures
+    (after_test 6 c.then-asked.ensures c.is_octary.ensures c.in_shape-asked.ensures))
     ∙ simp and_then_refuse

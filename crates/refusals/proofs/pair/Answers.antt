@@ -9,13 +9,9 @@ use Rattle.refusals.proofs.pair.Goals as goal
 pub returns : goal.returns
 unfolding pair_refusal
 returns c =
-    let first = c.before in
-    let second-length = first.before in
-    let first-length = second-length.before.before in
-    let shape = first-length.before.before in
     after _ c.symbols_in.ensures
-    (after _ first.symbols_in-asked.ensures
-    (after_test 2 second-length.then-asked-2.ensures second-length.bad_length-2.ensures
-    (after_test 2 first-length.then-asked.ensures first-length.bad_length.ensures
-    shape.in_shape-asked.ensures)))
+    (after _ c.symbols_in-asked.ensures
+    (after_test 2 c.then-asked-2.ensures c.bad_length-2.ensures
+    (after_test 2 c.then-asked.ensures c.bad_length.ensures
+    c.in_shape-asked.ensures)))
     ∙ simp (and_then_refuse, and_then_refuse_at, refuse_or)

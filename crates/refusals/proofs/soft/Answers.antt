@@ -8,8 +8,6 @@ use Rattle.refusals.proofs.soft.Goals as goal
 pub returns : goal.returns
 unfolding soft_refusal
 returns c =
-    let octary = c.before.before in
-    let shape = octary.before.before in
     after_test 2 c.then.ensures c.bad_soft_length.ensures
-    (after_test 6 octary.then-asked.ensures octary.is_octary.ensures shape.in_shape-asked.ensures)
+    (after_test 6 c.then-asked.ensures c.is_octary.ensures c.in_shape-asked.ensures)
     ∙ simp and_then_refuse

@@ -10,11 +10,8 @@ use Rattle.refusals.proofs.transform.Goals as goal
 pub returns : goal.returns
 unfolding transform_refusal
 returns c =
-    let second = c.before in
-    let first = second.before.before in
-    let range = first.before.before in
     after _ c.values.ensures
-    (after_test 2 second.then-asked-3.ensures second.short_area-2.ensures
-    (after_test 2 first.then-asked-2.ensures first.short_area.ensures
-    (first_test 1 range.then-asked.ensures (ap not range.in_m.ensures))))
+    (after_test 2 c.then-asked-3.ensures c.short_area-2.ensures
+    (after_test 2 c.then-asked-2.ensures c.short_area.ensures
+    (first_test 1 c.then-asked.ensures (ap not c.in_m.ensures))))
     ∙ simp (and_then_refuse, refuse_or)

@@ -8,8 +8,6 @@ use Rattle.refusals.proofs.word.Goals as goal
 pub returns : goal.returns
 unfolding word_refusal
 returns c =
-    let length = c.before in
-    let shape = length.before.before in
     after _ c.symbols.ensures
-    (after_test 2 length.then-asked.ensures length.bad_length.ensures shape.in_shape-asked.ensures)
+    (after_test 2 c.then-asked.ensures c.bad_length.ensures c.in_shape-asked.ensures)
     ∙ simp and_then_refuse

@@ -10,32 +10,23 @@ use mir.ValLaws.{to_z-of_z}
 use Rattle.range.specs.Signed.{entry}
 use Rattle.range.proofs.Tests.{first_below_some, first_below_none}
 use Rattle.rules.specs.Spectrum.{accepted}
-use Rattle.refusals.proofs.table.first_outside.Goals.{After-takes, Start}
 use Rattle.refusals.proofs.table.first_outside.Goals as goal
-
--- whether the entry at place k is out of range
-abbrev outside : Start → ℕ → Bool
-outside c k = not (accepted (entry c.args.area.now k))
-
--- what the test tells of the entry at i
-told : (c : After-takes) → let at-loop = c.before.before.before in
-    outside at-loop.before at-loop.loop-i.i ≡ not c.takes.result
-told c =
-    let at = c.at in
-    let back = to_z-of_z w32 at.result (record { sfits = at.type_inv }) in
-    ap not (sym (c.takes.ensures ∙ ap accepted (back ∙ at.ensures)))
 
 pub returns-then-not-takes : goal.returns-then-not-takes
 returns-then-not-takes c =
-    let at-loop = c.before.before.before.before in
+    let outside : ℕ → Bool = λ k. not (accepted (entry c.args.area.now k)) in
+    let told : outside c.loop-i.i ≡ not c.takes.result =
+    let at = c.at in
+    let back = to_z-of_z w32 at.result (record { sfits = at.type_inv }) in
+    ap not (sym (c.takes.ensures ∙ ap accepted (back ∙ at.ensures))) in
     sym
-    (first_below_some at-loop.args.n (outside at-loop.before) at-loop.loop-i.i
+    (first_below_some c.args.n (outside) c.loop-i.i
     c.loop-i-test.true
-    (told c.before ∙ c.if-not-takes.true) at-loop.loop-i.invariant.1)
+    (told ∙ ap not c.if-not-takes.true) c.loop-i.invariant.1)
 
 pub returns : goal.returns
 returns c =
-    let start = c.before.before in
+    let outside : ℕ → Bool = λ k. not (accepted (entry c.args.area.now k)) in
     sym
-    (first_below_none start.args.n (outside start)
+    (first_below_none c.args.n (outside)
     (λ k h. c.loop-i.invariant.1 k (omega (arith, c.loop-i-test.false))))

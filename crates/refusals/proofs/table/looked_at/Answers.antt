@@ -8,8 +8,7 @@ use Rattle.refusals.proofs.table.looked_at.Goals as goal
 
 pub returns-then-reaches : goal.returns-then-reaches
 returns-then-reaches c =
-    let asked = c.before.before in
-    let args = asked.args in
+    let args = c.args in
     c.power.ensures
     ∙ power_reached args.n args.m (search rules)
-    (leb-true _ _ (sym asked.reaches.ensures ∙ c.if-reaches.true))
+    (leb-true _ _ (sym c.reaches.ensures ∙ c.if-reaches.true))

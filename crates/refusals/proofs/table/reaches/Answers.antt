@@ -7,4 +7,5 @@ use Rattle.refusals.proofs.Tests.{lt_power}
 use Rattle.refusals.proofs.table.reaches.Goals as goal
 
 pub returns-else-e-lt64 : goal.returns-else-e-lt64
-returns-else-e-lt64 c = sym (lt-leb _ _ (lt_power c.args.x c.args.e (search rules) c.if-e-lt64.false))
+returns-else-e-lt64 c =
+    sym (lt-leb _ _ (lt_power c.args.x c.args.e (search rules) c.if-e-lt64.false))
