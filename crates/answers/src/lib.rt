@@ -6,7 +6,7 @@
 use kinds::{MessageNumber, Refusal};
 
 // The word of greatest correlation: its message, its correlation, and whether another word has it too.
-#[derive(Drop)]
+#[derive(Clone, Copy)]
 pub struct Loudest {
     pub message: MessageNumber,
     pub correlation: i32,
@@ -14,7 +14,7 @@ pub struct Loudest {
 }
 
 // The nearest word: its message, its distance, and whether another word has it too.
-#[derive(Drop)]
+#[derive(Clone, Copy)]
 pub struct Closest {
     pub message: MessageNumber,
     pub distance: u32,
@@ -22,14 +22,14 @@ pub struct Closest {
 }
 
 // The answer of soft decoding.
-#[derive(Drop)]
+#[derive(Clone, Copy)]
 pub enum Heard {
     Found(Loudest),
     Refused(Refusal),
 }
 
 // The answer of hard decoding.
-#[derive(Drop)]
+#[derive(Clone, Copy)]
 pub enum Matched {
     Found(Closest),
     Refused(Refusal),

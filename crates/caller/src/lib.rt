@@ -9,7 +9,7 @@ ghost use Rattle.caller.specs.Seen.{Seen};
 
 // What is seen: the first entry of the part, and then the first entry of the second area for even m, of the first for
 // odd m.
-#[derive(Drop)]
+#[derive(Clone, Copy)]
 pub struct Ends {
     pub total: i32,
     pub kept: i32,

@@ -17,14 +17,14 @@ use kinds::{Judged, MessageNumber, PathNumber, Refusal};
 use shape::{PLACES, ROWS, STEPS};
 
 // The answer of encode and partner.
-#[derive(Drop)]
+#[derive(Clone, Copy)]
 pub enum Written {
     Done,
     Refused(Refusal),
 }
 
 // A label taken apart: its path number, and its coefficients, c and then c_1 to c_m.
-#[derive(Drop)]
+#[derive(Clone, Copy)]
 struct Parts {
     path: PathNumber,
     c: [u32; ROWS],

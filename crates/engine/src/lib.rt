@@ -33,7 +33,7 @@ const AREA: usize = 2 << (GREATEST_DECODED * GREATEST_M);
 const MOST_GAIN: u32 = 1 << 25;
 
 // The numbers of a shape that the search goes by: q symbols, half of N, size labels of a path, uses paths in use.
-#[derive(Drop)]
+#[derive(Clone, Copy)]
 struct Sizes {
     h: u32,
     m: u32,

@@ -7,23 +7,23 @@ ghost use Rattle.std.specs.Prelude.{◌≡◌};
 ghost use Rattle.kinds.specs.Refusals.{refusal_number, refusal_carries, Carries};
 
 // A place in a word, or in an area of the transform, counted from 0.
-#[derive(Drop)]
+#[derive(Clone, Copy)]
 pub struct Place(pub usize);
 
 // The number of a path, counted from 0 in dictionary order.
-#[derive(Drop)]
+#[derive(Clone, Copy)]
 pub struct PathNumber(pub u32);
 
 // A message number: path number highest, then c_1 to c_m, then c lowest.
-#[derive(Drop)]
+#[derive(Clone, Copy)]
 pub struct MessageNumber(pub u64);
 
 // Which of the two words that the pair check is given, counted from 1.
-#[derive(Drop)]
+#[derive(Clone, Copy)]
 pub struct Which(pub u32);
 
 // Why a call refuses. Kinds 3 and 7 carry the first bad place, and 3 of the pair check the word that it stands in.
-#[derive(Drop)]
+#[derive(Clone, Copy)]
 pub enum Refusal {
     // 1: h or m is outside its range.
     Shape,
@@ -43,14 +43,14 @@ pub enum Refusal {
 }
 
 // What a question about a call answers: that nothing is refused, or the refusal that the call gives.
-#[derive(Drop)]
+#[derive(Clone, Copy)]
 pub enum Judged {
     Allowed,
     Refused(Refusal),
 }
 
 // The numbers that a refusal carries: how many they are, and they, with 0 for each that there is not.
-#[derive(Drop)]
+#[derive(Clone, Copy)]
 pub struct Carried {
     pub count: usize,
     pub first: usize,

@@ -8,7 +8,7 @@ use crate::parse::{MOST, ends, take_name, take_small};
 use kinds::Judged;
 use show::{area, number, refusal, say, signed};
 
-#[derive(Drop)]
+#[derive(Clone, Copy)]
 enum Call {
     Transform,
     Run,

@@ -13,7 +13,7 @@ const LARGEST_32: u64 = 4294967295;
 const LARGEST_64: u64 = 18446744073709551615;
 
 // A piece of a line: whether it is there, its value, and where it ends. The value of a word or a list is its length.
-#[derive(Drop)]
+#[derive(Clone, Copy)]
 pub struct Piece {
     pub there: bool,
     pub value: u64,
@@ -41,7 +41,7 @@ impl Piece {
 }
 
 // A number with one digit more.
-#[derive(Drop)]
+#[derive(Clone, Copy)]
 enum Longer {
     Is(u64),
     Nothing,

@@ -6,7 +6,7 @@ use crate::parse::{MOST, ends, take_name, take_small};
 use crate::telling::tell_heard;
 
 // A number as one of 16 bits, where it fits.
-#[derive(Drop)]
+#[derive(Clone, Copy)]
 enum Short {
     Is(i16),
     Nothing,

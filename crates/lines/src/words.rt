@@ -11,7 +11,7 @@ use crate::symbols::take_word;
 use crate::telling::{tell_matched, tell_paired, tell_reading, tell_written};
 use kinds::MessageNumber;
 
-#[derive(Drop)]
+#[derive(Clone, Copy)]
 enum Call {
     Encode,
     Partner,

@@ -14,7 +14,7 @@ ghost use Rattle.pair.specs.Words.{Words};
 use kinds::{Judged, Refusal};
 
 // What the pair check answers.
-#[derive(Drop)]
+#[derive(Clone, Copy)]
 pub enum Paired {
     Yes,
     No,

@@ -15,7 +15,7 @@ use kinds::{Judged, MessageNumber, Refusal};
 use shape::PLACES;
 
 // The answer of word reading.
-#[derive(Drop)]
+#[derive(Clone, Copy)]
 pub enum Reading {
     Found(MessageNumber),
     Refused(Refusal),

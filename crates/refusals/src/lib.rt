@@ -22,7 +22,7 @@ use table::{
 };
 
 // What a search through a slice finds.
-#[derive(Drop)]
+#[derive(Clone, Copy)]
 enum Search {
     At(Place),
     Nowhere,

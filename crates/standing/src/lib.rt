@@ -6,7 +6,7 @@
 ghost use Rattle.std.specs.Prelude.{◌≡◌};
 ghost use Rattle.standing.specs.Lead.{better};
 
-#[derive(Drop)]
+#[derive(Clone, Copy)]
 pub struct Standing {
     pub best: u32,
     pub second: u32,

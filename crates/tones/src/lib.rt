@@ -11,7 +11,7 @@ const ZERO: u64 = 32768;
 
 // How a word is heard: at a level, each value off by at most `noise`, by numbers drawn from `seed` on. Both are at most
 // 32,768; what is greater counts as that.
-#[derive(Drop)]
+#[derive(Clone, Copy)]
 pub struct Channel {
     pub level: u64,
     pub noise: u64,

@@ -1,0 +1,13 @@
+-- `steps::unpack` meets its contract: step after step it takes the digit out of the number.
+-- Invariant: the first k steps are taken, the others are 0. Measure: the steps left.  Assumes nothing.
+use Prim.Native.Nat.{◌-◌, ◌≤◌}
+use mathlib.Core.Path.{◌≡◌}
+use Rattle.range.specs.Below.{filled}
+use Rattle.steps.specs.PathSteps.{step_in}
+use Rattle.steps.proofs.unpack.Given as goal
+
+abbrev pub invariant-loop-k : goal.invariant-loop-k
+invariant-loop-k l = (l.k ≤ l.n) × (l.p ≡ filled l.k (step_in l.n l.number) zeros)
+
+abbrev pub decreases-loop-k : goal.decreases-loop-k
+decreases-loop-k l = l.n - l.k
