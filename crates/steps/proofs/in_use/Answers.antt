@@ -1,7 +1,6 @@
 -- `steps::in_use` meets its contract: for an m in range the paths in use fit 64 bits.
 -- Assumes nothing.
 use mathlib.Core.Path.{sym, ◌∙◌}
-use borrow.Author.Tests.{not-false}
 use Rattle.shape.proofs.Powers.{power_uses}
 use Rattle.steps.proofs.in_use.Goals as goal
 
@@ -9,5 +8,5 @@ pub returns : goal.returns
 returns c =
     rw (
       c.power.ensures ∙ power_uses _ _ c.path_bits.ensures,
-      sym c.in_m.ensures ∙ not-false _ c.if-not-in_m.false,
+      sym c.in_m.ensures ∙ c.if-not-in_m.false,
     )

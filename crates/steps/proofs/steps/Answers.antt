@@ -1,10 +1,8 @@
 -- `steps::steps` meets its contract: the constants are the table of the paths in use, which antt computes and compares.
 -- Assumes nothing.
-use Prim.Native.Nat.{◌+◌, ◌-◌, ◌≤◌, ◌<◌}
+use Prim.Native.Nat.{◌-◌, ◌≤◌, ◌<◌}
 use mathlib.Core.Path.{sym, ◌∙◌}
 use mathlib.Core.List.{flat_map}
-use lib.ListN.{get_or}
-use borrow.Author.Tests.{not-true, not-false}
 use Rattle.range.specs.Below.{sum_below, list_below, rows_below}
 use Rattle.rules.specs.Shape.{greatest_m, path_bits, paths_in_use}
 use Rattle.rules.specs.Path.{keep, without, orders, up_to, paths, path_at}
@@ -13,21 +11,17 @@ use Rattle.steps.proofs.steps.Goals as goal
 
 pub returns-then-not-in_use : goal.returns-then-not-in_use
 returns-then-not-in_use c =
-    steps_of_unused _ _ (sym c.in_use.ensures ∙ not-true _ c.if-not-in_use.true)
+    steps_of_unused _ _ (sym c.in_use.ensures ∙ c.if-not-in_use.true)
 
 pub bounds-first : goal.bounds-first
 unfolding list_below path_bits starts sum_below
 bounds-first c =
-    let used : let args = c.args in
-    (2 ≤ args.m) × (args.m ≤ greatest_m) × (args.n.0 < paths_in_use args.m) = in_use_range _ _ (sym c.in_use.ensures ∙ not-false _ c.if-not-in_use.false) in
-    let number_in : let args = c.args in
-    get_or starts (args.m - 2) 0 + args.n.0 < sum_below (greatest_m - 1) (λ j. paths_in_use (j + 2)) = start_lt _ _ (used).0 (used).1 (used).2 in
-    number_in
+    let used : (2 ≤ c.args.m) × (c.args.m ≤ greatest_m) × (c.args.n.0 < paths_in_use c.args.m) = in_use_range _ _ (sym c.in_use.ensures ∙ c.if-not-in_use.false) in
+    start_lt _ _ (used).0 (used).1 (used).2
 
 pub returns : goal.returns
 unfolding flat_map keep list_below orders packed path_at path_bits paths rows_below starts sum_below table up_to without
 returns c =
-    let used : let args = c.args in
-    (2 ≤ args.m) × (args.m ≤ greatest_m) × (args.n.0 < paths_in_use args.m) = in_use_range _ _ (sym c.in_use.ensures ∙ not-false _ c.if-not-in_use.false) in
+    let used : (2 ≤ c.args.m) × (c.args.m ≤ greatest_m) × (c.args.n.0 < paths_in_use c.args.m) = in_use_range _ _ (sym c.in_use.ensures ∙ c.if-not-in_use.false) in
     let u = used in
     c.unpack.ensures ∙ table_steps _ _ u.0 u.1 u.2
