@@ -18,14 +18,14 @@ loop-r-init c =
 
 pub overflow_add-sum : goal.overflow_add-sum
 overflow_add-sum c =
-    let coefficientAt : ℕ → ℕ = λ r. get_or c.args.t2 r 0 in
+    let coefficientAt : ℕ → ℕ = λ r. get_or c.args.c r 0 in
     let termAt : ℕ → ℕ = λ r. coefficientAt r * cell c.args.g r c.args.i in
     let term : let r = c.loop-r.r in coefficientAt r * c.at.result ≡ termAt r = ap (λ (x : ℕ). coefficientAt c.loop-r.r * x) c.at.ensures in
     let small : coefficientAt c.loop-r.r * c.at.result ≤ most_term =
     omega (
       arith,
       term,
-      term_le c.args.m c.args.g c.requires.0 c.args.i c.requires.1.1 c.args.t2 c.requires.1.0
+      term_le c.args.m c.args.g c.requires.cells c.args.i c.requires.i_bound c.args.c c.requires.small
           c.loop-r.r (omega (arith, c.loop-r-test.true)),
     ) in
     let sofar : c.loop-r.sum ≤ most_linear =
@@ -33,15 +33,15 @@ overflow_add-sum c =
       arith,
       c.loop-r.invariant.1,
       c.loop-r-test.true,
-      c.requires.0.most,
-      terms_le c.args.m c.args.g c.requires.0 c.args.i c.requires.1.1 c.args.t2 c.requires.1.0
+      c.requires.cells.most,
+      terms_le c.args.m c.args.g c.requires.cells c.args.i c.requires.i_bound c.args.c c.requires.small
           c.loop-r.r (omega (arith, c.loop-r-test.true)),
     ) in
     omega (arith, small, sofar)
 
 pub loop-r-preserved : goal.loop-r-preserved
 loop-r-preserved c =
-    let coefficientAt : ℕ → ℕ = λ r. get_or c.args.t2 r 0 in
+    let coefficientAt : ℕ → ℕ = λ r. get_or c.args.c r 0 in
     let termAt : ℕ → ℕ = λ r. coefficientAt r * cell c.args.g r c.args.i in
     let term : let r = c.loop-r.r in coefficientAt r * c.at.result ≡ termAt r = ap (λ (x : ℕ). coefficientAt c.loop-r.r * x) c.at.ensures in
     let turn = c.loop-r in (search rules, sum_below_turn turn.r turn.sum _ _ turn.invariant.1 (term))
@@ -49,7 +49,7 @@ loop-r-preserved c =
 pub returns : goal.returns
 unfolding linear_of
 returns c =
-    let coefficientAt : ℕ → ℕ = λ r. get_or c.args.t2 r 0 in
+    let coefficientAt : ℕ → ℕ = λ r. get_or c.args.c r 0 in
     let termAt : ℕ → ℕ = λ r. coefficientAt r * cell c.args.g r c.args.i in
     let turn = c.loop-r in
     turn.invariant.1 ∙ ap (λ (n : ℕ). sum_below n (termAt)) (omega (arith, turn.invariant.0, c.loop-r-test.false))

@@ -18,7 +18,7 @@ loop-k-init c =
 
 pub overflow_add-sum : goal.overflow_add-sum
 overflow_add-sum c =
-    let digitAt : ℕ → ℕ = λ k. cell c.args.g (get_or c.args.t2 k 0) c.args.i in
+    let digitAt : ℕ → ℕ = λ k. cell c.args.g (get_or c.args.p k 0) c.args.i in
     let link_at : ℕ → ℕ = λ k. digitAt k * digitAt (k + 1) in
     let link : c.at.result * c.at-in-loop-k.result ≡ link_at c.loop-k.k =
     ap₂ (λ (x y : ℕ). x * y)
@@ -28,7 +28,7 @@ overflow_add-sum c =
     omega (
       arith,
       link,
-      link_le c.args.m c.args.g c.requires.0 c.args.i c.requires.1.1 c.args.t2 c.requires.1.0
+      link_le c.args.m c.args.g c.requires.cells c.args.i c.requires.i_bound c.args.p c.requires.walk
           c.loop-k.k c.loop-k-test.true,
     ) in
     let sofar : c.loop-k.sum ≤ most_links =
@@ -37,15 +37,15 @@ overflow_add-sum c =
       arith,
       at-loop.invariant.0,
       at-loop.invariant.1,
-      c.requires.0.most,
-      link_sum_le c.args.m c.args.g c.requires.0 c.args.i c.requires.1.1 c.args.t2 c.requires.1.0
+      c.requires.cells.most,
+      link_sum_le c.args.m c.args.g c.requires.cells c.args.i c.requires.i_bound c.args.p c.requires.walk
           at-loop.k at-loop.invariant.0,
     ) in
     omega (arith, small, sofar)
 
 pub loop-k-preserved : goal.loop-k-preserved
 loop-k-preserved c =
-    let digitAt : ℕ → ℕ = λ k. cell c.args.g (get_or c.args.t2 k 0) c.args.i in
+    let digitAt : ℕ → ℕ = λ k. cell c.args.g (get_or c.args.p k 0) c.args.i in
     let link_at : ℕ → ℕ = λ k. digitAt k * digitAt (k + 1) in
     let link : c.at.result * c.at-in-loop-k.result ≡ link_at c.loop-k.k =
     ap₂ (λ (x y : ℕ). x * y)
@@ -59,7 +59,7 @@ loop-k-preserved c =
 pub returns : goal.returns
 unfolding links_of
 returns c =
-    let digitAt : ℕ → ℕ = λ k. cell c.args.g (get_or c.args.t2 k 0) c.args.i in
+    let digitAt : ℕ → ℕ = λ k. cell c.args.g (get_or c.args.p k 0) c.args.i in
     let link_at : ℕ → ℕ = λ k. digitAt k * digitAt (k + 1) in
     let at-loop = c.loop-k in
     at-loop.invariant.1 ∙ ap (λ (n : ℕ). sum_below n (link_at)) (omega (arith, at-loop.invariant.0, c.loop-k-test.false))

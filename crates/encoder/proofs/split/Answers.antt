@@ -20,12 +20,12 @@ path_is c =
 
 pub loop-r-init : goal.loop-r-init
 loop-r-init c =
-    let base : c.power-q.result ≡ phases c.args.h = c.power-q.ensures ∙ power_phases c.args.h c.args.m c.requires.0 in
+    let base : c.power-q.result ≡ phases c.args.h = c.power-q.ensures ∙ power_phases c.args.h c.args.m c.requires.m_value in
     divided_first c.args.h c.args.m c.args.label c.power-q.result (replicate (suc greatest_m) 0) (base) refl
 
 pub loop-r-preserved : goal.loop-r-preserved
 loop-r-preserved c =
-    let ranged : InRange c.args.h c.args.m = in_shape_range _ _ c.requires.0 in
+    let ranged : InRange c.args.h c.args.m = in_shape_range _ _ c.requires.m_value in
     let at-loop = c.loop-r in
     divided_step _ _ _ _ at-loop.r at-loop.rest at-loop.c at-loop.invariant c.loop-r-test.true
     (ranged).m_most
@@ -35,7 +35,7 @@ overflow_cast-path c =
     omega (
       arith,
       path_is (goal.at.overflow_cast-path c).After-loop-r,
-      label_path_lt c.args.h c.args.m c.args.label c.requires.1,
+      label_path_lt c.args.h c.args.m c.args.label c.requires.label_bound,
       paths_in_use_most c.args.m,
     )
 
