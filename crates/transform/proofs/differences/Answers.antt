@@ -1,7 +1,7 @@
 -- `transform::differences` meets its contract: place after place of the second half of a block it writes what the stage
 -- writes. Invariant: a loop from the middle to the end, which writes, stands at i. Measure: the places left.
 -- Assumes nothing.
-use Prim.Native.Nat.{◌-◌, ◌<◌}
+use Prim.Native.Nat.{◌<◌}
 use native.Mathlib.Omega.{arith}
 use mathlib.Core.Path.{sym, ◌∙◌}
 use lib.ListN.{length}

@@ -1,7 +1,7 @@
 -- `transform::pass` meets its contract: block after block, the first half is written and then the second.
 -- Invariant: a block begins at p, and all before it is written. Measure: the entries left.
 -- Assumes nothing.
-use Prim.Native.Nat.{◌+◌, ◌-◌, ◌≤◌}
+use Prim.Native.Nat.{◌+◌, ◌≤◌}
 use native.Mathlib.Omega.{arith}
 use mathlib.Core.Path.{◌≡◌, ◌∙◌}
 use mathlib.Core.List.{List}

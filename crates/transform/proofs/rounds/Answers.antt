@@ -1,10 +1,9 @@
 -- `transform::rounds` meets its contract: stage after stage, the area that holds the last one is read and the other is
 -- written. Invariant: what stands between the areas after k stages. Measure: the stages left.
 -- Assumes nothing.
-use Prim.Native.Nat.{ℕ, ◌-◌, ◌%◌}
+use Prim.Native.Nat.{ℕ, ◌%◌}
 use native.Mathlib.Omega.{arith}
 use mathlib.Core.Path.{◌≡◌, ◌∙◌}
-use mathlib.Core.Logic.{⊎_elim}
 use Rattle.rules.proofs.RefusalLaws.{TransformTaken, transform_taken}
 use Rattle.transform.proofs.Between.{between_none, between_first, between_second}
 use Rattle.transform.proofs.Between.{between_even, between_odd, between_reads_first, between_reads_second}
@@ -49,7 +48,7 @@ loop-k-preserved c =
     let t = taken (goal.at.loop-k-preserved c).Start in
     let size = c.requires.n_value in
     elim c.if-k-eq0.branch [
-      then-k-eq0 w ↦ rw w.first-is
+      | then-k-eq0 w ↦ rw w.first-is
           (between_even _ _ _ _ t size _ _ _ _ c.loop-k.invariant c.loop-k-test.true w.if-k-eq0.true _
           (w.second-is ∙ w.stage.ensures))
       | else-k-eq0 w ↦ rw w.second-is

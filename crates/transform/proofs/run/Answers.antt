@@ -4,7 +4,7 @@
 use mathlib.Core.Path.{◌≡◌, sym, ◌∙◌, ap}
 use mathlib.Core.Bool.{true}
 use lib.ListN.{length}
-use Rattle.rules.specs.Shape.{in_m, carriers}
+use Rattle.rules.specs.Shape.{in_m}
 use Rattle.rules.specs.Outcome.{allowed}
 use Rattle.rules.specs.Refusal.{transform_refusal}
 use Rattle.rules.proofs.RefusalLaws.{transform_taken}

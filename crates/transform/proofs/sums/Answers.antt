@@ -1,7 +1,7 @@
 -- `transform::sums` meets its contract: place after place of the first half of a block it writes what the stage writes.
 -- Invariant: a loop from p to the middle, which writes, stands at i. Measure: the places left.
 -- Assumes nothing.
-use Prim.Native.Nat.{◌-◌, ◌<◌}
+use Prim.Native.Nat.{◌<◌}
 use native.Mathlib.Omega.{arith}
 use mathlib.Core.Path.{sym, ◌∙◌}
 use lib.ListN.{length}
