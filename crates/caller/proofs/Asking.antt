@@ -1,12 +1,13 @@
 -- The call of `other` by `look`, without the machine: both areas are lent to it as shared ones, and come back as they
 -- were. Of the callee nothing is known but its contract.
---     Other            its contract.           given_other ν    what it binds outside, for ν and under g
+--     Other            its contract.           given_other ν    what it binds outside, for ν
+--     passed m x y     the arguments: m, and the areas as shared ones
 --     Shared ν         what is kept of the areas while they are shared for ν
 --     to_other         Both x' y'  ⊢ ⇛ ∃ ν. what `other` asks, for ν ∗ Shared ν
 --     Answered m x y v k    `other` has returned v, which is the number k, of the areas x and y
 --     other_over       what `other` leaves ∗ Shared ν  ⊢ ⇛ ∃ k. Both x' y', and Answered holds of k
--- x' and y' are the areas as `transform` leaves them, as long as those that were passed: left_first, left_second and Both
--- are in Parting.antt. The loan is in Sharing.antt; the call with the part is in Reading.antt.  Assumes `Logic`.
+-- x' and y' are the areas as `transform` leaves them, as long as those that were passed: left_first, left_second and
+-- Both are in Parting.antt. The loan is in Sharing.antt; the call with the part is in Reading.antt.  Assumes `Logic`.
 use Prim.Native.Nat.{ℕ, ◌<◌, ◌^◌}
 use mathlib.Core.Path.{◌≡◌, refl}
 use mathlib.Core.Bool.{cond}
@@ -18,13 +19,13 @@ use base.Fraction.{full_share, left, right}
 use mir.Syntax.{w32}
 use mir.Val.{Val}
 use base.Logic.{SProp, ent, sep, ex, guard, id⊢}
-use base.Fml.{Lft, GName, Share, Fml, ftrue, fsep, flft, fdead}
+use base.Fml.{Lft, Share, ftrue, flft, fdead}
 use prog.Memory.{Memory}
 use prog.Routine.{Routine}
-use types.Logic.{Logic, sem}
+use types.Logic.{Logic}
 use contract.Monad.{Fun, fact}
 use types.Kit.{Item, mean, ‵, raw, ◌⊛◌, some, later, ◌$◌, ◌∵◌, !, qed, move, keep, use1, use2, split, split3, join, pick}
-use types.Kit.{check, drop, fsplit, fjoin, show, await, updating, now as at_once, done}
+use types.Kit.{check, drop, fjoin, show, await, updating, now as at_once, done}
 use types.Tokens.{lft_new, lft_end}
 use borrow.Table.Copies.{c_s_int, Shares-copy}
 use denote.Laws.{Is, shows}

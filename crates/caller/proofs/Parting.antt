@@ -21,7 +21,7 @@ use base.Fraction.{full_share}
 use mir.Syntax.{erased, w32}
 use mir.Val.{Val}
 use base.Logic.{SProp, ent, sep, ex, guard, id⊢}
-use base.Fml.{Lft, GName, Share, Fml, ftrue, fsep, flft, fdead}
+use base.Fml.{Lft, GName, Share, Fml, ftrue, flft, fdead}
 use prog.Memory.{Memory}
 use prog.Routine.{Routine}
 use types.Logic.{Logic, sem}

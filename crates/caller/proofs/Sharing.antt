@@ -4,7 +4,7 @@
 --     Shr x n          what the shared slice x owns, where its machine value has the count n
 --     HadShr x         what the shared slice x owns, with a share of its lifetime's token
 --     KeptS x          what the lender of x keeps meanwhile
---     shares           Had x ∗ [κ']_p  ⊢ ⇛ (Shr x at κ' ∗ KeptS x ∗ [κ']_p): κ' has begun, and a share of its token shows it
+--     shares           Had x ∗ [κ']_p  ⊢ ⇛ (Shr x at κ' ∗ KeptS x ∗ [κ']_p), where κ' is under way, as its token shows
 --     shared_back      [†κ'] ∗ KeptS x  ⊢ ⇛ Had x
 -- Assumes `Logic`.
 use Prim.Native.Nat.{ℕ}
@@ -14,11 +14,11 @@ use lib.ListN.{length}
 use seplogic.Ra.Ura.{Ura}
 use mir.Syntax.{erased}
 use mir.Val.{Val}
-use base.Logic.{SProp, ent, sep, ex}
-use base.Fml.{Lft, GName, Share, Fml, flft, fdead}
+use base.Logic.{SProp, ent, sep}
+use base.Fml.{Lft, Share, Fml, flft, fdead}
 use types.Logic.{Logic, sem}
-use types.Kit.{Item, mean, split3, move, join, use3, ‵, ◌⊛◌, some, later, ◌$◌, ◌∵◌, !, qed, use1, use2, split, pick, fsplit, fjoin, feq_i, await}
-use types.Kit.{updating, now as at_once, show, done}
+use types.Kit.{Item, mean, use3, ‵, ◌⊛◌, later, ◌$◌, ◌∵◌, !, qed, use1, use2, split, fsplit, fjoin, feq_i, await}
+use types.Kit.{updating, now as at_once, done}
 use denote.RattleType.{RattleType, RowLaws}
 use denote.Ref.{Bor, MutBor, as_bor}
 use denote.Shares.{Shares}

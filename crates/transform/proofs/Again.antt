@@ -22,7 +22,8 @@ use mir.Val.{Val}
 use base.Logic.{ent, sep, ex, guard}
 use base.Fml.{Lft, GName, Share, Fml, flft, fdead}
 use types.Logic.{Logic, sem}
-use types.Kit.{Item, mean, join, ‵, ◌⊛◌, some, given, later, ◌$◌, ◌∵◌, !, qed, move, use1, use2, use3, drop, split, pick, learn}
+use types.Kit.{Item, mean, ‵, ◌⊛◌, some, given, later, ◌$◌, ◌∵◌, !, qed, move, use1, use2, use3, drop, split, join}
+use types.Kit.{pick, learn}
 use types.Kit.{check, fsplit, fjoin, feq_i, await, updating, now as at_once, show, done}
 use denote.RattleType.{RattleType}
 use denote.Ref.{MutBor, at_last}
@@ -57,7 +58,8 @@ module _ {M : Type 1} {𝓤 : Ura M} (𝓛 : Logic 𝓤) (R : RattleType) where
 
     pub clad : ent 𝓤 (sem 𝓛 ((Bare erased κ R).own_val x)) (sem 𝓛 (Own κ R x))
     clad =
-        qed 𝓛 (‵ ((Bare erased κ R).own_val x) ∷ []) ∵ fsplit ! $ feq_i ! (List Val) (mut_slice_vals x) (mut_slice_vals x) refl $
+        qed 𝓛 (‵ ((Bare erased κ R).own_val x) ∷ []) ∵ fsplit ! $
+        feq_i ! (List Val) (mut_slice_vals x) (mut_slice_vals x) refl $
         fjoin ! $ fjoin ! $ done !
 
   module _ (κ κ' : Lft) where

@@ -22,7 +22,8 @@ use prog.Memory.{Memory}
 use prog.Routine.{Routine}
 use types.Logic.{Logic, sem}
 use contract.Monad.{Fun, fact}
-use types.Kit.{Item, mean, ‵, raw, ◌⊛◌, some, later, ◌$◌, ◌∵◌, !, qed, move, keep, use1, use2, use3, split, split3, join}
+use types.Kit.{Item, mean, ‵, raw, ◌⊛◌, some, later, ◌$◌, ◌∵◌, !, qed, move, keep, use1, use2, use3, split}
+use types.Kit.{split3, join}
 use types.Kit.{pick, drop, group, fsplit, fjoin, check, show, await, updating, now as at_once, done}
 use types.Tokens.{lft_new, lft_end}
 use denote.Laws.{Is, shows}

@@ -12,8 +12,9 @@ use Rattle.transform.proofs.differences.Goals as goal
 
 pub loop-i-preserved : goal.loop-i-preserved
 loop-i-preserved c =
-    let place : c.loop-i.i < length c.loop-i.to = omega (arith, c.loop-i-test.true, c.requires.fits, c.loop-i.invariant.fills.sized) in
+    let place : c.loop-i.i < length c.loop-i.to =
+    omega (arith, c.loop-i-test.true, c.requires.fits, c.loop-i.invariant.fills.sized) in
     let at = c.loop-i in
-    filling_turn at.invariant c.loop-i-test.true (place)
+    filling_turn at.invariant c.loop-i-test.true place
     (bits_back c.less.result c.less.type_inv ∙ c.less.ensures
     ∙ sym (butterfly_second _ _ c.requires.begins _ at.i at.invariant.from c.loop-i-test.true))
