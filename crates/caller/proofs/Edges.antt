@@ -93,8 +93,8 @@ module _ {M : Type 1} {𝓤 : Ura M} (𝓛 : Logic 𝓤) (κ₀ κ₁ : Lft) (q�
         (tt, (x'.now, (y'.now, tt))) (tt, (lx, (ly, tt)))) $ says ! said $ split ! $ split ! $ move ! (2 ∷ []) $
         split ! $
         -- [y and its token; x and its token]
-        rewrite ! 0 (λ (n : ℕ). ‵ ((MutSlice (named 1) κ₁ i32).own_val y' (slice_val y.ptr n ∷ []))) ly refl $
-        rewrite ! 2 (λ (n : ℕ). ‵ ((MutSlice (named 0) κ₀ i32).own_val x' (slice_val x.ptr n ∷ []))) lx refl $
+        rewrite ! 0 (λ (n : ℕ). ‵ ((MutSlice (named 1) κ₁ i32).own_val y' (slice_val y.ref_ptr n ∷ []))) ly refl $
+        rewrite ! 2 (λ (n : ℕ). ‵ ((MutSlice (named 0) κ₀ i32).own_val x' (slice_val x.ref_ptr n ∷ []))) lx refl $
         nothing ! $ move ! (1 ∷ 0 ∷ []) $ fjoin ! $ move ! (2 ∷ 0 ∷ []) $ fjoin ! $
         owned ! u32 (Is u32) (uint_Makes 𝓛 w32) m _ (refl, m_fits) $ fjoin ! $
         owned ! T.the_row (Is T.the_row) (LL.makes T.the_type T'.the_plain 𝓛) (ends z k) _

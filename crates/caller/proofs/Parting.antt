@@ -17,16 +17,16 @@ use mathlib.Core.List.{List, [], ◌∷◌}
 use lib.IntN.{ℤ}
 use lib.ListN.{length}
 use seplogic.Ra.Ura.{Ura}
-use seplogic.Ra.TreeShare.{full_share}
+use base.Fraction.{full_share}
 use mir.Syntax.{erased, w32}
 use mir.Val.{Val}
 use base.Logic.{SProp, ent, sep, ex, guard, id⊢}
-use base.Fml.{Lft, GName, Share, Fml, ftrue, fsep, flft, fdead}
+use base.Fml.{Lft, GName, Share, Fml, ftrue, flft, fdead}
 use prog.Memory.{Memory}
 use prog.Routine.{Routine}
 use types.Logic.{Logic, sem}
 use contract.Monad.{Fun, fact}
-use types.Kit.{‵, raw, given, ◌⊛◌, some, later, ◌$◌, ◌∵◌, !, qed, move, keep, use1, use3, rewrite, split, join}
+use types.Kit.{Item, mean, ‵, raw, given, ◌⊛◌, some, later, ◌$◌, ◌∵◌, !, qed, move, keep, use1, use3, rewrite, split, join}
 use types.Kit.{pick, learn, check, drop, fsplit, fjoin, show, await, updating, now as at_once, done}
 use types.Tokens.{lft_new, lft_end}
 use denote.Laws.{Is, shows}
@@ -60,13 +60,13 @@ module _ (m : ℕ) (x y : MutBor (List ℤ)) where
   abbrev pub Handing : ℕ → Val → Bor (List ℤ) → Type 0
   Handing ν w r = Is (ShrSlice erased (ν ∷ []) i32) r (w ∷ []) × (r.now ≡ part_of m x.now y.now)
 
-module _ (κ₀ κ₁ : Lft) (q₀ q₁ : Share) where
+module _ (κ₀ κ₁ : Lft) (q₀ q₁ : Share) {M : Type 1} {𝓤 : Ura M} (𝓛 : Logic 𝓤) (x y : MutBor (List ℤ)) where
   -- what is kept of the areas x and y while they are lent for ν under g
-  abbrev pub Meanwhile : MutBor (List ℤ) → MutBor (List ℤ) → ℕ → GName × GName → Fml
-  Meanwhile x y ν g = fsep (Kept_of i32 κ₀ (ν ∷ []) q₀ x g.0) (Kept_of i32 κ₁ (ν ∷ []) q₁ y g.1)
+  abbrev pub Meanwhile : ℕ → GName × GName → Item 𝓤
+  Meanwhile ν g = Kept_of 𝓛 i32 κ₀ (ν ∷ []) q₀ x g.0 ⊛ Kept_of 𝓛 i32 κ₁ (ν ∷ []) q₁ y g.1
 
-  abbrev pub Both : {M : Type 1} {𝓤 : Ura M} (𝓛 : Logic 𝓤) → Bor (List ℤ) → Bor (List ℤ) → SProp 𝓤
-  Both {𝓤 = 𝓤} 𝓛 x y = sep 𝓤 (Had 𝓛 i32 κ₀ q₀ x) (Had 𝓛 i32 κ₁ q₁ y)
+  abbrev pub Both : SProp 𝓤
+  Both = sep 𝓤 (Had 𝓛 i32 κ₀ q₀ x) (Had 𝓛 i32 κ₁ q₁ y)
 
 module _ {M : Type 1} {𝓤 : Ura M} (𝓛 : Logic 𝓤) (mem : Memory → SProp 𝓤) (go : Routine → Fun 𝓤) where
   open 𝓛 use {H, A}
@@ -96,25 +96,25 @@ module _ {M : Type 1} {𝓤 : Ura M} (𝓛 : Logic 𝓤) (mem : Memory → SProp
         join ! $ nothing ! $ move ! (1 ∷ 0 ∷ []) $ done !
 
     abbrev Lent : ℕ → GName × GName → SProp 𝓤
-    Lent ν g = Transform.pre (given_transform ν g) ∗ ⟦ Meanwhile κ₀ κ₁ q₀ q₁ x y ν g ⟧
+    Lent ν g = Transform.pre (given_transform ν g) ∗ mean 𝓛 (Meanwhile κ₀ κ₁ q₀ q₁ 𝓛 x y ν g)
 
     pub lent : m < 2 ^ 32 → ent 𝓤 (Both κ₀ κ₁ q₀ q₁ 𝓛 x y) (H.⇛ (ex 𝓤 (λ (ν : ℕ). ex 𝓤 (Lent ν))))
     lent m_fits =
         qed 𝓛 (raw (Had 𝓛 i32 κ₀ q₀ x) ∷ raw (Had 𝓛 i32 κ₁ q₁ y) ∷ []) ∵ updating ! $
         lft_new ! tt (λ ν. move ! (1 ∷ []) $
         use1 𝓛 (later (some (λ (γ : GName).
-        ‵ (Own (ν ∷ []) i32 (under x γ)) ⊛ ‵ (Kept_of i32 κ₀ (ν ∷ []) q₀ x γ))))
+        ‵ (Own (ν ∷ []) i32 (under x γ)) ⊛ Kept_of 𝓛 i32 κ₀ (ν ∷ []) q₀ x γ)))
         (lends 𝓛 i32 κ₀ (ν ∷ []) q₀ x) $ await ! tt $ pick ! (λ γ. split ! $ move ! (3 ∷ []) $
         use1 𝓛 (later (some (λ (δ : GName).
-        ‵ (Own (ν ∷ []) i32 (under y δ)) ⊛ ‵ (Kept_of i32 κ₁ (ν ∷ []) q₁ y δ))))
+        ‵ (Own (ν ∷ []) i32 (under y δ)) ⊛ Kept_of 𝓛 i32 κ₁ (ν ∷ []) q₁ y δ)))
         (lends 𝓛 i32 κ₁ (ν ∷ []) q₁ y) $ await ! tt $ pick ! (λ δ. split ! $
         -- [y at ν; what is kept of it; x at ν; what is kept of it; ν's token]
         move ! (4 ∷ 2 ∷ 0 ∷ []) $
         use3 𝓛 (raw (Transform.pre (given_transform ν (γ, δ)))) (goes m_fits ν (γ, δ)) $ move ! (2 ∷ 1 ∷ []) $
-        fjoin ! $ move ! (1 ∷ 0 ∷ []) $ at_once ! $
+        join ! $ move ! (1 ∷ 0 ∷ []) $ at_once ! $
         show ! (λ (ν' : ℕ). ex 𝓤 (Lent ν')) ν $ show ! (Lent ν) (γ, δ) $ done !)))
 
-    abbrev Parted : ℕ → GName × GName → Val → MutBor (List ℤ) → SProp 𝓤
+    abbrev Parted : ℕ → GName × GName → Val → Bor (List ℤ) → SProp 𝓤
     Parted ν g w r = guard 𝓤 (Handing m x y ν w r) (HadShr 𝓛 i32 (ν ∷ []) full_share r ∗ ⟦ Known m x y g ⟧)
 
     pub parted : (ν : ℕ) (g : GName × GName) (w : Val) → ent 𝓤 (Transform.post (given_transform ν g) w)
@@ -139,20 +139,20 @@ module _ {M : Type 1} {𝓤 : Ura M} (𝓛 : Logic 𝓤) (mem : Memory → SProp
         check ! (is, handed.contents) $ done !))))
 
     -- the part is over
-    abbrev x' : Bor (List ℤ)
+    abbrev x' : MutBor (List ℤ)
     x' = left_first m x y
 
-    abbrev y' : Bor (List ℤ)
+    abbrev y' : MutBor (List ℤ)
     y' = left_second m x y
 
     pub over : (ν : ℕ) (g : GName × GName) → ent 𝓤
-        (A.lft (ν ∷ []) full_share ∗ ⟦ Known m x y g ⟧ ∗ ⟦ Meanwhile κ₀ κ₁ q₀ q₁ x y ν g ⟧)
+        (A.lft (ν ∷ []) full_share ∗ ⟦ Known m x y g ⟧ ∗ mean 𝓛 (Meanwhile κ₀ κ₁ q₀ q₁ 𝓛 x y ν g))
         (H.⇛ (Both κ₀ κ₁ q₀ q₁ 𝓛 x' y'))
     over ν g =
-        qed 𝓛 (‵ (flft (ν ∷ []) full_share) ∷ ‵ (Known m x y g) ∷ ‵ (Meanwhile κ₀ κ₁ q₀ q₁ x y ν g) ∷ []) ∵
+        qed 𝓛 (‵ (flft (ν ∷ []) full_share) ∷ ‵ (Known m x y g) ∷ Meanwhile κ₀ κ₁ q₀ q₁ 𝓛 x y ν g ∷ []) ∵
         updating ! $ lft_end ! tt $
         use1 𝓛 (‵ (fdead (ν ∷ [])) ⊛ ‵ (fdead (ν ∷ []))) (𝓛.lfts.dead_dup (ν ∷ [])) $ split ! $
-        move ! (2 ∷ []) $ fsplit ! $ move ! (4 ∷ []) $ fsplit ! $
+        move ! (2 ∷ []) $ fsplit ! $ move ! (4 ∷ []) $ split ! $
         -- [what is kept of x, and of y; the last lists of x, and of y; ν is dead, twice]
         move ! (4 ∷ 0 ∷ 2 ∷ []) $
         use3 𝓛 (later (given (length x'.now ≡ length x.now) (raw (Had 𝓛 i32 κ₀ q₀ x'))))

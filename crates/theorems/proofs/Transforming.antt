@@ -12,7 +12,7 @@ use lib.IntN.{ℤ}
 use lib.ListN.{length, drop}
 use lib.Pow.{pow_pos}
 use borrow.Author.Tests.{eq-eqb, ne_eqb}
-use denote.Ref.{MutBor}
+use denote.Ref.{Bor, MutBor}
 use Rattle.range.specs.Below.{list_below, filled}
 use Rattle.range.specs.Signed.{entry}
 use Rattle.range.proofs.Lists.{length_list_below}
@@ -137,7 +137,7 @@ module _ (m : ℕ) (x y : MutBor (List ℤ)) where
       let after = after_odd m x.now y.now free e in
       at_last after.0 after.1
 
-module _ (m : ℕ) (x y r : MutBor (List ℤ)) (h : Handed m x y r) where
+module _ (m : ℕ) (x y : MutBor (List ℤ)) (r : Bor (List ℤ)) (h : Handed m x y r) where
   pub part_spectrum : TransformRow m x.now y.now allowed →
       r.now ≡ list_below (carriers m) (spectrum_at m (entry x.now))
   unfolding part_of

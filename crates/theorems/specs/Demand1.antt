@@ -13,7 +13,7 @@ use seplogic.Ra.Ura.{Ura}
 use base.Logic.{ent}
 use types.Logic.{Logic, sem}
 use contract.Monad.{conj, fact}
-use Rattle.std.specs.Borrow.{Bor}
+use Rattle.std.specs.Borrow.{Bor, MutBor}
 use Rattle.rules.specs.Word.{word_of, partner_of}
 use Rattle.rules.specs.Outcome.{Outcome, refuses, allowed}
 use Rattle.rules.specs.Refusal.{pair_outcome, read_outcome, soft_refusal, hard_refusal, transform_refusal}
@@ -53,7 +53,7 @@ pub record Demand1 : Type 2 where
   pub question_tells : (m : ℕ) (a b : List ℤ) (r : Judged) → judged_told r ≡ transform_refusal m a (length b) →
       (o : Outcome (Unit {0})) → (judged_told r ≡ o) ↔ TransformRow m a b o
   -- The transform has no enum to answer with: its part is empty exactly where the row of no refusal does not hold.
-  pub transform_empty : (m : ℕ) (x y r : Bor (List ℤ)) → Handed m x y r →
+  pub transform_empty : (m : ℕ) (x y : MutBor (List ℤ)) (r : Bor (List ℤ)) → Handed m x y r →
       (r.now ≡ []) ↔ (TransformRow m x.now y.now allowed → ⊥)
   -- A decoder refuses nothing else: where no test of its table holds, a message is found.
   pub soft_answers : (h m : ℕ) (ys : List ℤ) (r : Heard) → soft_refusal h m ys ≡ allowed → Hears h m ys r →
@@ -69,7 +69,7 @@ pub record Demand1 : Type 2 where
       (k : ℕ) (v : List ℕ) → TransformRow m a b (refuses k v) → (n ≡ 0) × (a' ≡ a) × (b' ≡ b)
   -- A refused transform hands back the empty part at the front of the first area, and what it says of its areas is that
   -- they hold at last what they held.
-  pub transform_keeps : (m : ℕ) (x y r : Bor (List ℤ)) → Handed m x y r →
+  pub transform_keeps : (m : ℕ) (x y : MutBor (List ℤ)) (r : Bor (List ℤ)) → Handed m x y r →
       (k : ℕ) (v : List ℕ) → TransformRow m x.now y.now (refuses k v) →
       (r.now ≡ []) × (r.ref_ptr ≡ x.ref_ptr) × (AtLast m x y ≡ AtLastOf x y x.now y.now)
   -- EVERY ANSWER IS PINNED DOWN (D1.5). Two endings that both keep a call's promise are one: the answer, and every
@@ -88,9 +88,9 @@ pub record Demand1 : Type 2 where
       judged_told s ≡ transform_refusal m a (length b) → r ≡ s
   pub run_one : (m : ℕ) (a b : List ℤ) (n k : ℕ) (a' b' c' d' : List ℤ) → Ran m a b n a' b' → Ran m a b k c' d' →
       (n ≡ k) × (a' ≡ c') × (b' ≡ d')
-  pub part_one : (m : ℕ) (x y r s : Bor (List ℤ)) → Handed m x y r → Handed m x y s →
+  pub part_one : (m : ℕ) (x y : MutBor (List ℤ)) (r s : Bor (List ℤ)) → Handed m x y r → Handed m x y s →
       (r.now ≡ s.now) × (r.ref_ptr ≡ s.ref_ptr)
   -- What the two areas of a transform hold at last, in the terms of the logic: no two endings hold together.
-  pub areas_one : {M : Type 1} {𝓤 : Ura M} (𝓛 : Logic 𝓤) → (x y : Bor (List ℤ))
+  pub areas_one : {M : Type 1} {𝓤 : Ura M} (𝓛 : Logic 𝓤) → (x y : MutBor (List ℤ))
       (a b c d : List ℤ) →
       ent 𝓤 (conj 𝓤 (sem 𝓛 (AtLastOf x y a b)) (sem 𝓛 (AtLastOf x y c d))) (fact 𝓤 ((a ≡ c) × (b ≡ d)))

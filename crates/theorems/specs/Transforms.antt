@@ -7,7 +7,7 @@
 -- Defines:  Transforms    the claims
 -- Proved in proofs/Proved.antt.  Assumes nothing: these are definitions.
 use Rattle.std.specs.Prelude.{ℕ, ◌-◌, ◌%◌, ◌<◌, ◌≡◌, List, ℤ, length, drop}
-use Rattle.std.specs.Borrow.{Bor}
+use Rattle.std.specs.Borrow.{Bor, MutBor}
 use Rattle.range.specs.Below.{list_below, filled}
 use Rattle.range.specs.Signed.{entry}
 use Rattle.rules.specs.Shape.{carriers}
@@ -22,20 +22,20 @@ use Rattle.theorems.specs.Rows.{TransformRow}
 pub record Transforms : Type 1 where
   -- THE PART is the spectrum of the first N entries of the first area, and stands at the front of the first area for
   -- even m, of the second for odd m.
-  pub part_spectrum : (m : ℕ) (x y r : Bor (List ℤ)) → Handed m x y r → TransformRow m x.now y.now allowed →
-      r.now ≡ list_below (carriers m) (spectrum_at m (entry x.now))
-  pub part_even : (m : ℕ) (x y r : Bor (List ℤ)) → Handed m x y r → TransformRow m x.now y.now allowed →
-      m % 2 ≡ 0 → r.ref_ptr ≡ x.ref_ptr
-  pub part_odd : (m : ℕ) (x y r : Bor (List ℤ)) → Handed m x y r → TransformRow m x.now y.now allowed →
-      m % 2 ≡ 1 → r.ref_ptr ≡ y.ref_ptr
+  pub part_spectrum : (m : ℕ) (x y : MutBor (List ℤ)) (r : Bor (List ℤ)) → Handed m x y r →
+      TransformRow m x.now y.now allowed → r.now ≡ list_below (carriers m) (spectrum_at m (entry x.now))
+  pub part_even : (m : ℕ) (x y : MutBor (List ℤ)) (r : Bor (List ℤ)) → Handed m x y r →
+      TransformRow m x.now y.now allowed → m % 2 ≡ 0 → r.ref_ptr ≡ x.ref_ptr
+  pub part_odd : (m : ℕ) (x y : MutBor (List ℤ)) (r : Bor (List ℤ)) → Handed m x y r →
+      TransformRow m x.now y.now allowed → m % 2 ≡ 1 → r.ref_ptr ≡ y.ref_ptr
   -- After all m stages the spectrum stands.
   pub stages_spectrum : (m : ℕ) (y : ℕ → ℤ) (i : ℕ) → i < carriers m → stages m m y i ≡ spectrum_at m y i
   -- THE AREAS, from N on as they were: for even m the spectrum at the front of the first and what stood after stage
   -- m - 1 at the front of the second, for odd m the other way round.
-  pub areas_even : (m : ℕ) (x y : Bor (List ℤ)) → TransformRow m x.now y.now allowed → m % 2 ≡ 0 →
+  pub areas_even : (m : ℕ) (x y : MutBor (List ℤ)) → TransformRow m x.now y.now allowed → m % 2 ≡ 0 →
       AtLast m x y ≡ AtLastOf x y (filled (carriers m) (spectrum_at m (entry x.now)) x.now)
       (filled (carriers m) (stages m (m - 1) (entry x.now)) y.now)
-  pub areas_odd : (m : ℕ) (x y : Bor (List ℤ)) → TransformRow m x.now y.now allowed → m % 2 ≡ 1 →
+  pub areas_odd : (m : ℕ) (x y : MutBor (List ℤ)) → TransformRow m x.now y.now allowed → m % 2 ≡ 1 →
       AtLast m x y ≡ AtLastOf x y (filled (carriers m) (stages m (m - 1) (entry x.now)) x.now)
       (filled (carriers m) (spectrum_at m (entry x.now)) y.now)
   -- `run` answers N, and leaves the same.

@@ -50,7 +50,8 @@ module _ (m : ℕ) (a b : List ℤ) where
 
   pub length_second_after : length (second_after m a b) ≡ length b
   unfolding second_after
-  length_second_after = length_leaves b (in_the_second (in_first m)) (λ e. (transform_taken m a b e).second) outcome refl
+  length_second_after =
+      length_leaves b (in_the_second (in_first m)) (λ e. (transform_taken m a b e).second) outcome refl
 
   pub length_part_of : length (part_of m a b) ≡ part_length m a b
   unfolding part_of part_length

@@ -13,17 +13,17 @@ use mathlib.Core.Path.{refl}
 use mathlib.Core.List.{List, [], ◌∷◌}
 use lib.IntN.{ℤ}
 use seplogic.Ra.Ura.{Ura}
-use seplogic.Ra.TreeShare.PosShare
-use seplogic.Ra.TreeShare.{full_share}
+use base.Fraction.{full_share, left, right}
 use mir.Syntax.{w32}
 use mir.Val.{Val, vint}
 use base.Logic.{SProp, ent, sep, ex, guard, id⊢}
-use base.Fml.{Lft, Share, GName, Fml, ftrue, flft}
+use base.Fml.{Lft, Share, GName, ftrue, flft}
 use prog.Memory.{Memory}
 use prog.Routine.{Routine}
 use types.Logic.{Logic, sem}
 use contract.Monad.{Fun, fact}
-use types.Kit.{‵, raw, ◌⊛◌, some, later, ◌$◌, ◌∵◌, !, qed, move, keep, use1, use2, use3, split, split3, join}
+use types.Kit.{Item, mean, ‵, raw, ◌⊛◌, some, later, ◌$◌, ◌∵◌, !, qed, move, keep, use1, use2, use3, split}
+use types.Kit.{split3, join}
 use types.Kit.{pick, drop, group, fsplit, fjoin, check, show, await, updating, now as at_once, done}
 use types.Tokens.{lft_new, lft_end}
 use denote.Laws.{Is, shows}
@@ -70,7 +70,7 @@ module _ {M : Type 1} {𝓤 : Ura M} (𝓛 : Logic 𝓤) where
     given_to ν g = (
       (
         (ν ∷ [], (ν ∷ [], tt)),
-        (PosShare.left full_share, (PosShare.right full_share, tt)),
+        (left full_share, (right full_share, tt)),
         tt,
         passed m x y g,
         vals m x y,
@@ -87,25 +87,25 @@ module _ {M : Type 1} {𝓤 : Ura M} (𝓛 : Logic 𝓤) where
           qed 𝓛 (‵ (flft (ν ∷ []) full_share) ∷ ‵ (Own (ν ∷ []) i32 (under x g.0)) ∷
           ‵ (Own (ν ∷ []) i32 (under y g.1)) ∷ []) ∵
           -- `run` has a lifetime for each area, and both are ν: each is given one half of its token
-          use1 𝓛 (‵ (flft (ν ∷ []) (PosShare.left full_share)) ⊛ ‵ (flft (ν ∷ []) (PosShare.right full_share)))
+          use1 𝓛 (‵ (flft (ν ∷ []) (left full_share)) ⊛ ‵ (flft (ν ∷ []) (right full_share)))
           (𝓛.lfts.lft_split (ν ∷ []) full_share) $ split ! $
           nothing ! $ move ! (2 ∷ 0 ∷ []) $ join ! $ move ! (1 ∷ 0 ∷ []) $ join ! $
           nothing ! $ move ! (3 ∷ 0 ∷ []) $ fjoin ! $ move ! (2 ∷ 0 ∷ []) $ fjoin ! $
           owned ! u32 (Is u32) (uint_Makes 𝓛 w32) m _ (refl, m_fits) $ fjoin ! $ move ! (1 ∷ 0 ∷ []) $ join ! $
           nothing ! $ move ! (1 ∷ 0 ∷ []) $ done !
 
-      abbrev Meanwhile : ℕ → GName × GName → Fml
-      Meanwhile ν g = Kept i32 κ (ν ∷ []) q x y g
+      abbrev Meanwhile : ℕ → GName × GName → Item 𝓤
+      Meanwhile ν g = Kept 𝓛 i32 κ (ν ∷ []) q x y g
 
       abbrev Called : ℕ → GName × GName → SProp 𝓤
-      Called ν g = sep 𝓤 ((Run mem go).pre (given_to ν g)) (sem 𝓛 (Meanwhile ν g))
+      Called ν g = sep 𝓤 ((Run mem go).pre (given_to ν g)) (mean 𝓛 (Meanwhile ν g))
 
       pub lent : m < 2 ^ 32 → ent 𝓤 (Both κ q x y x.now y.now) (H.⇛ (ex 𝓤 (λ (ν : ℕ). ex 𝓤 (Called ν))))
       lent m_fits =
           qed 𝓛 (raw (Both κ q x y x.now y.now) ∷ []) ∵ updating ! $ lft_new ! tt (λ ν. move ! (1 ∷ []) $
-          use1 𝓛 (later (some (λ (g : GName × GName). ‵ (Lent i32 κ (ν ∷ []) q x y g))))
+          use1 𝓛 (later (some (λ (g : GName × GName). Lent 𝓛 i32 κ (ν ∷ []) q x y g)))
           (lends_both 𝓛 i32 κ (ν ∷ []) q x y) $ await ! tt $ pick ! (λ g.
-          fsplit ! $ move ! (1 ∷ []) $ fsplit ! $ move ! (3 ∷ 2 ∷ 0 ∷ []) $
+          split ! $ move ! (1 ∷ []) $ split ! $ move ! (3 ∷ 2 ∷ 0 ∷ []) $
           use3 𝓛 (raw ((Run mem go).pre (given_to ν g))) (goes m_fits ν g) $ at_once ! $
           show ! (λ (ν' : ℕ). ex 𝓤 (Called ν')) ν $ show ! (Called ν) g $ done !))
 
@@ -113,11 +113,11 @@ module _ {M : Type 1} {𝓤 : Ura M} (𝓛 : Logic 𝓤) where
       Came w z = guard 𝓤 (Told m x y w z) (Both κ q x y z.1 z.2)
 
       pub back : (ν : ℕ) (g : GName × GName) (w : Val) → ent 𝓤
-          (sep 𝓤 ((Run mem go).post (given_to ν g) w) (sem 𝓛 (Meanwhile ν g))) (H.⇛ (ex 𝓤 (Came w)))
+          (sep 𝓤 ((Run mem go).post (given_to ν g) w) (mean 𝓛 (Meanwhile ν g))) (H.⇛ (ex 𝓤 (Came w)))
       back ν g w =
-          qed 𝓛 (raw ((Run mem go).post (given_to ν g) w) ∷ ‵ (Meanwhile ν g) ∷ []) ∵ updating ! $
+          qed 𝓛 (raw ((Run mem go).post (given_to ν g) w) ∷ Meanwhile ν g ∷ []) ∵ updating ! $
           use1 𝓛 (later (some (λ (n : ℕ).
-          ((‵ (flft (ν ∷ []) (PosShare.left full_share)) ⊛ ‵ (flft (ν ∷ []) (PosShare.right full_share)) ⊛ ‵ ftrue)
+          ((‵ (flft (ν ∷ []) (left full_share)) ⊛ ‵ (flft (ν ∷ []) (right full_share)) ⊛ ‵ ftrue)
           ⊛ ‵ (usize.own_val n (w ∷ [])))
           ⊛ raw (ensured 𝓛 run.ended (run.clauses 𝓛 mem go) (ν ∷ [], (ν ∷ [], tt)) (passed m x y g) tt n))))
           (id⊢ 𝓤 _) $ await ! tt $ pick ! (λ n. split ! $ move ! (1 ∷ []) $
@@ -129,8 +129,10 @@ module _ {M : Type 1} {𝓤 : Ura M} (𝓛 : Logic 𝓤) where
           fsplit ! $ drop ! $ fsplit ! $ fsplit ! $ move ! (2 ∷ []) $ fsplit ! $ fsplit ! $ move ! (5 ∷ []) $ split ! $
           move ! (1 ∷ []) $ facts ! usize (Is usize) (shows 𝓛 usize) n (w ∷ []) (λ is. split3 ! $
           use2 𝓛 (‵ (flft (ν ∷ []) full_share)) (𝓛.lfts.lft_join (ν ∷ []) full_share) $ lft_end ! tt $
-          -- [ν is dead; ..; the second's last list; ..; ..; the first's; ..; what is kept]
-          keep ! (0 ∷ 7 ∷ 5 ∷ 2 ∷ []) $ group ! 4 $
+          -- [ν is dead; true; each area's last list with its length, and the borrow back; what is kept]
+          move ! (2 ∷ []) $ fsplit ! $ move ! (6 ∷ []) $ fsplit ! $
+          -- [the first's last list; its length; the second's; its length; ν is dead; ..; what is kept]
+          keep ! (4 ∷ 9 ∷ 0 ∷ 2 ∷ []) $ group ! 4 $
           use1 𝓛 (later (raw (Both κ q x y ws.1.0 ws.1.1.0)))
           (both_back 𝓛 i32 κ (ν ∷ []) q x y g ws.1.0 ws.1.1.0) $ await ! tt $ at_once ! $
           show ! (Came w) (n, ws.1.0, ws.1.1.0) $ check ! (is, ran) $ done !))))

@@ -16,13 +16,13 @@ use seplogic.Ra.Ura.{Ura}
 use mir.Syntax.{named, w32}
 use mir.Val.{Val}
 use base.Logic.{SProp, ent, sep, via, assoc∗}
-use base.Fml.{Lft, Share, GName, Fml, ftrue, flft}
+use base.Fml.{Lft, Share, Fml, ftrue, flft}
 use prog.Memory.{Memory}
 use prog.Routine.{Routine}
 use types.Logic.{Logic, sem}
 use contract.Monad.{Fun, fact}
-use types.Kit.{‵, raw, ◌⊛◌, some, later, ◌$◌, ◌∵◌, !, qed, by, move, keep, use1, rewrite, split, split3}
-use types.Kit.{join, pick, drop, fsplit, fjoin, suffices, await, updating, done}
+use types.Kit.{‵, raw, ◌⊛◌, later, ◌$◌, ◌∵◌, !, qed, by, move, keep, use1, rewrite, split, split3}
+use types.Kit.{join, drop, fsplit, fjoin, suffices, await, updating, done}
 use denote.RattleType.{owns}
 use denote.Laws.{Is}
 use denote.Plain.{uint_Makes}
@@ -51,7 +51,7 @@ stayed = (
 
 -- the part as the machine has it
 abbrev pub out : MutBor (List ℤ) → MutBor (List ℤ) → Bool → ℕ → Val
-out x y t n = slice_val (cond t x.ptr y.ptr) n
+out x y t n = slice_val (cond t x.ref_ptr y.ref_ptr) n
 
 module _ {M : Type 1} {𝓤 : Ura M} (𝓛 : Logic 𝓤) (κ : Lft) (q : Share) (m : ℕ) (x y : MutBor (List ℤ)) where
   open 𝓛 use {A}
@@ -74,20 +74,20 @@ module _ {M : Type 1} {𝓤 : Ura M} (𝓛 : Logic 𝓤) (κ : Lft) (q : Share) 
     Post = (walk_of 𝓛 transform.ended stayed (transform.clauses 𝓛 mem go)).post bound
 
     module _ (m_fits : m < 2 ^ 32) (t : Bool) (e : part_in_first m x.now y.now ≡ t) where
-      abbrev OnExit : ℕ → GName → SProp 𝓤
-      OnExit n γ =
-          on_exit 𝓛 transform.ended stayed (κ, tt) (q, tt) (vals m x y) (out x y t n) (part m x y t γ)
+      abbrev OnExit : ℕ → SProp 𝓤
+      OnExit n =
+          on_exit 𝓛 transform.ended stayed (κ, tt) (q, tt) (vals m x y) (out x y t n) (part m x y t)
           (m, (x, (y, tt))) (tt, (tt, (tt, tt)))
 
-      handed : (n : ℕ) (γ : GName) → ent 𝓤
-          (sep 𝓤 (sem 𝓛 (Part m x y t κ n γ)) (sep 𝓤 (A.lft κ q) (sem 𝓛 (AtLast m x y)))) (Post (out x y t n))
-      handed n γ =
-          qed 𝓛 (‵ (Part m x y t κ n γ) ∷ ‵ (flft κ q) ∷ ‵ (AtLast m x y) ∷ []) ∵
-          suffices ! (sep 𝓤 (sep 𝓤 (OnExit n γ) (sem 𝓛 (AtLast m x y))) (fact 𝓤 (Handed m x y (part m x y t γ))))
-          (via 𝓤 _ (assoc∗ 𝓤 (OnExit n γ) (sem 𝓛 (AtLast m x y)) (fact 𝓤 (Handed m x y (part m x y t γ))))
-          (ends_at 𝓛 transform.ended stayed (transform.clauses 𝓛 mem go) bound (out x y t n) (part m x y t γ)
+      handed : (n : ℕ) → ent 𝓤
+          (sep 𝓤 (sem 𝓛 (Part m x y t κ n)) (sep 𝓤 (A.lft κ q) (sem 𝓛 (AtLast m x y)))) (Post (out x y t n))
+      handed n =
+          qed 𝓛 (‵ (Part m x y t κ n) ∷ ‵ (flft κ q) ∷ ‵ (AtLast m x y) ∷ []) ∵
+          suffices ! (sep 𝓤 (sep 𝓤 (OnExit n) (sem 𝓛 (AtLast m x y))) (fact 𝓤 (Handed m x y (part m x y t))))
+          (via 𝓤 _ (assoc∗ 𝓤 (OnExit n) (sem 𝓛 (AtLast m x y)) (fact 𝓤 (Handed m x y (part m x y t))))
+          (ends_at 𝓛 transform.ended stayed (transform.clauses 𝓛 mem go) bound (out x y t n) (part m x y t)
           (tt, (tt, (tt, tt))) (tt, (tt, (tt, tt))))) $
-          says ! (record { contents = refl; place = ap (λ (s : Bool). cond s x.ptr y.ptr) (sym e) }) $
+          says ! (record { contents = refl; place = ap (λ (s : Bool). cond s x.ref_ptr y.ref_ptr) (sym e) }) $
           nothing ! $ nothing ! $ fjoin ! $ nothing ! $ fjoin ! $
           owned ! u32 (Is u32) (uint_Makes 𝓛 w32) m _ (refl, m_fits) $ fjoin ! $ join ! $
           nothing ! $ move ! (2 ∷ 0 ∷ []) $ join ! $ join ! $ done !
@@ -96,7 +96,6 @@ module _ {M : Type 1} {𝓤 : Ura M} (𝓛 : Logic 𝓤) (κ : Lft) (q : Share) 
           ent 𝓤 (Both 𝓛 κ q x y z.1 z.2) (Post (out x y t z.0))
       exits z ran =
           qed 𝓛 (raw (Both 𝓛 κ q x y z.1 z.2) ∷ []) ∵ updating ! $
-          use1 𝓛 (later (some (λ (γ : GName).
-          ‵ (Part m x y t κ z.0 γ) ⊛ ‵ (flft κ q) ⊛ ‵ (AtLastOf x y z.1 z.2))))
-          (hands 𝓛 κ q m x y t e ran) $ await ! tt $ pick ! (λ γ. split3 ! $
-          rewrite ! 2 (λ (F : Fml). ‵ F) (left_promised m x y ran) refl $ by ! (handed z.0 γ))
+          use1 𝓛 (later (‵ (Part m x y t κ z.0) ⊛ ‵ (flft κ q) ⊛ ‵ (AtLastOf x y z.1 z.2)))
+          (hands 𝓛 κ q m x y t e ran) $ await ! tt $ split3 ! $
+          rewrite ! 2 (λ (F : Fml). ‵ F) (left_promised m x y ran) refl $ by ! (handed z.0)

@@ -19,7 +19,7 @@ pub ran_unique : {m : ℕ} {a b : List ℤ} {n k : ℕ} {a' b' c' d' : List ℤ}
     (n ≡ k) × (a' ≡ c') × (b' ≡ d')
 ran_unique p q = (p.count ∙ sym q.count, p.first ∙ sym q.first, p.second ∙ sym q.second)
 
-pub handed_unique : {m : ℕ} {x y r s : Bor (List ℤ)} → Handed m x y r → Handed m x y s →
+pub handed_unique : {m : ℕ} {x y : MutBor (List ℤ)} {r s : Bor (List ℤ)} → Handed m x y r → Handed m x y s →
     (r.now ≡ s.now) × (r.ref_ptr ≡ s.ref_ptr)
 handed_unique p q = (p.contents ∙ sym q.contents, p.place ∙ sym q.place)
 

@@ -22,7 +22,7 @@ use mathlib.Core.List.{List, [], ◌∷◌, ◌++◌}
 use lib.Dec.{T, eqb, eqb_refl, T_not}
 use lib.ListN.{drop}
 use seplogic.Ra.Ura.{Ura}
-use seplogic.Ra.TreeShare.{full_share}
+use base.Fraction.{full_share}
 use mir.Syntax.{Ty, w64, Opd as Operand, copy, place, field, deref, addr_of, aggregate, Body, seq, assign, cond, skip}
 use mir.Syntax.{Local, local}
 use mir.Val.{Val, Fits, vbool, vint, vptr}

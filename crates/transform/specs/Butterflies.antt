@@ -8,7 +8,8 @@
 --           first_at m k a        what the first area holds after k stages: what the last even stage wrote, and
 --           second_at m k a b    the second: what the last odd stage wrote; before any stage, b
 -- Laws: proofs/Halves.antt, Stages.antt.  Assumes nothing: these are definitions.
-use Rattle.std.specs.Prelude.{ℕ, zero, suc, ◌+◌, ◌-◌, ◌*◌, ◌/◌, ◌%◌, ◌^◌, ◌≤◌, ◌<◌, ◌≡◌, cond, List, eqb, ℤ, ◌+ℤ◌, ◌-ℤ◌, length}
+use Rattle.std.specs.Prelude.{ℕ, zero, suc, ◌+◌, ◌-◌, ◌*◌, ◌/◌, ◌%◌, ◌^◌, ◌≤◌, ◌<◌, ◌≡◌, cond, List}
+use Rattle.std.specs.Prelude.{eqb, ℤ, ◌+ℤ◌, ◌-ℤ◌, length}
 use Rattle.std.specs.Int.Signed.{mag}
 use Rattle.range.specs.Below.{filled}
 use Rattle.range.specs.Signed.{entry}

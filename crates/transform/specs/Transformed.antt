@@ -16,7 +16,7 @@ pub record Ran (m : ℕ) (a b : List ℤ) (n : ℕ) (a' b' : List ℤ) : Type 0 
   pub second : b' ≡ second_after m a b
 
 -- a part stands at the front of an area where their pointers are equal
-pub record Handed (m : ℕ) (x y r : Bor (List ℤ)) : Type 0 where
+pub record Handed (m : ℕ) (x y : MutBor (List ℤ)) (r : Bor (List ℤ)) : Type 0 where
   pub contents : r.now ≡ part_of m x.now y.now
   pub place : r.ref_ptr ≡ cond (part_in_first m x.now y.now) x.ref_ptr y.ref_ptr
 
@@ -24,5 +24,5 @@ pub record Handed (m : ℕ) (x y r : Bor (List ℤ)) : Type 0 where
 abbrev pub AtLastOf : MutBor (List ℤ) → MutBor (List ℤ) → List ℤ → List ℤ → Fml
 AtLastOf x y a b = fsep (finally i32 x.ghost_name a) (finally i32 y.ghost_name b)
 
-abbrev pub AtLast : ℕ → Bor (List ℤ) → Bor (List ℤ) → Fml
+abbrev pub AtLast : ℕ → MutBor (List ℤ) → MutBor (List ℤ) → Fml
 AtLast m x y = AtLastOf x y (first_after m x.now y.now) (second_after m x.now y.now)

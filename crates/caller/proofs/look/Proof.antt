@@ -12,7 +12,7 @@ use mathlib.Core.List.{List, [], ◌∷◌}
 use lib.IntN.{ℤ}
 use lib.ListN.{length}
 use seplogic.Ra.Ura.{Ura}
-use seplogic.Ra.TreeShare.{full_share}
+use base.Fraction.{full_share}
 use mir.Syntax.{named, erased, w32}
 use mir.Val.{vint}
 use mir.ValLaws.{of_z_fits}
@@ -33,7 +33,7 @@ use sound.WpLaws.{FmC, fm_of, WpFn-mono}
 use denote.Plain.{uint_vals, uint_Tells}
 use denote.Signed.{sint_Lawful}
 use denote.Builtin.{u32, i32}
-use denote.Ref.{MutBor}
+use denote.Ref.{Bor, MutBor}
 use denote.Slice.{slice_val, mut_slice_vals, Room, mut_slice_Tells, shr_slice_Lawful}
 use denote.Steps.{only}
 use denote.Exit.{yes}
@@ -41,11 +41,10 @@ use denote.Signature.{plain}
 use denote.Triple.Spec.{Meets, triple_of}
 use denote.Triple.Statement.{Triple}
 use denote.Triple.Call.{calls_at}
-use denote.Triple.Table.{entered, cited}
+use denote.Triple.Table.{entered}
 use denote.Triple.Walked.{Goes-none, Goes-slice, Walks, walked, walk_Meets}
 use Rattle.range.specs.Signed.{entry}
 use Rattle.transform.proofs.Walking.{to_end, becomes, copies, reborrows, allocates, frees_held, sized}
-use Rattle.transform.proofs.transform.Symbol as transform-def
 use Rattle.transform.proofs.transform.Symbol.{name as #transform·transform}
 use Rattle.transform.proofs.transform.Met as transform-thm
 use Rattle.caller.proofs.Sharing.{HadShr}
@@ -54,10 +53,8 @@ use Rattle.caller.proofs.Parting.{Transform, given_transform, lent, parted, over
 use Rattle.caller.proofs.Reading.{Front, Fronted, given_front, to_front, front_over}
 use Rattle.caller.proofs.Asking.{Other, Answered, Shared, given_other, to_other, other_over}
 use Rattle.caller.proofs.Edges.{stayed, Entered, Post, opened, exits}
-use Rattle.caller.proofs.front.Symbol as front-def
 use Rattle.caller.proofs.front.Symbol.{name as #caller·front}
 use Rattle.caller.proofs.front.Met as front-thm
-use Rattle.caller.proofs.other.Symbol as other-def
 use Rattle.caller.proofs.other.Symbol.{name as #caller·other}
 use Rattle.caller.proofs.other.Met as other-thm
 use Rattle.caller.specs.contracts.look as look
@@ -77,10 +74,10 @@ module _ {M : Type 1} {𝓤 : Ura M} (𝓛 : Logic 𝓤) (mem : Memory → SProp
   abbrev to-transform : ℕ → GName × GName → (Transform 𝓛 mem go).Ghost
   to-transform = given_transform 𝓛 mem go κ₀ κ₁ q₀ q₁ m x y
 
-  abbrev to_read : ℕ → MutBor (List ℤ) → (Front 𝓛 mem go).Ghost
+  abbrev to_read : ℕ → Bor (List ℤ) → (Front 𝓛 mem go).Ghost
   to_read ν = given_front 𝓛 mem go (ν ∷ []) full_share
 
-  abbrev to-ask : ℕ → GName × GName → (Other 𝓛 mem go).Ghost
+  abbrev to-ask : ℕ → (Other 𝓛 mem go).Ghost
   to-ask = given_other 𝓛 mem go κ₀ κ₁ q₀ q₁ m x y
 
   module _ (C : Calls 𝓤 H) (Λ : Loops 𝓤 H) (fm : FmC 𝓤 H 𝓛.laws C)
@@ -101,11 +98,11 @@ module _ {M : Type 1} {𝓤 : Ura M} (𝓛 : Logic 𝓤) (mem : Memory → SProp
         reborrows ! refl 4 refl (init ! 14 refl (tt, tt)) (copies ! 14 refl) refl (init ! 16 refl (sized roomy.0)) $
         reborrows ! refl 6 refl (init ! 18 refl (tt, tt)) (copies ! 18 refl) refl (init ! 20 refl (sized roomy'.0)) $
         move ! (30 ∷ []) $ use1 𝓛 (later (some (λ (ν : ℕ). some (λ (g : GName × GName).
-        raw ((Transform 𝓛 mem go).pre (to-transform ν g)) ⊛ ‵ (Meanwhile κ₀ κ₁ q₀ q₁ x y ν g)))))
+        raw ((Transform 𝓛 mem go).pre (to-transform ν g)) ⊛ Meanwhile κ₀ κ₁ q₀ q₁ 𝓛 x y ν g))))
         (lent 𝓛 mem go κ₀ κ₁ q₀ q₁ m x y m_fits) $ await ! tt $ pick ! (λ ν. pick ! (λ g. split ! $
         calls_at ! fm (Transform 𝓛 mem go) known-transform (to-transform ν g)
         (and_then ! (copies ! 4 refl) (and_then ! (copies ! 18 refl) (and_then ! (copies ! 22 refl) (no_more !)))) (λ w.
-        use1 𝓛 (later (some (λ (r : MutBor (List ℤ)). given (Handing m x y ν w r)
+        use1 𝓛 (later (some (λ (r : Bor (List ℤ)). given (Handing m x y ν w r)
         (raw (HadShr 𝓛 i32 (ν ∷ []) full_share r) ⊛ ‵ (Known m x y g)))))
         (parted 𝓛 mem go κ₀ κ₁ q₀ q₁ m x y ν g w) $ await ! tt $ pick ! (λ r. learn ! (λ handing. split ! $
         -- [the part; what is known of the areas; what is kept of them; the locals]
@@ -126,13 +123,13 @@ module _ {M : Type 1} {𝓤 : Ura M} (𝓛 : Logic 𝓤) (mem : Memory → SProp
         -- `let kept = other(m, first, second)`
         reborrows ! refl 4 refl (init ! 22 refl (tt, tt)) (copies ! 22 refl) refl (init ! 24 refl (sized roomy.0)) $
         reborrows ! refl 6 refl (init ! 26 refl (tt, tt)) (copies ! 26 refl) refl (init ! 28 refl (sized roomy'.0)) $
-        move ! (30 ∷ []) $ use1 𝓛 (later (some (λ (ξ : ℕ). some (λ (h : GName × GName).
-        raw ((Other 𝓛 mem go).pre (to-ask ξ h)) ⊛ ‵ (Shared κ₀ κ₁ q₀ q₁ (left_first m x y) (left_second m x y) ξ)))))
-        (to_other 𝓛 mem go κ₀ κ₁ q₀ q₁ m x y m_fits) $ await ! tt $ pick ! (λ ξ. pick ! (λ h. split ! $
-        calls_at ! fm (Other 𝓛 mem go) known-other (to-ask ξ h)
+        move ! (30 ∷ []) $ use1 𝓛 (later (some (λ (ξ : ℕ).
+        raw ((Other 𝓛 mem go).pre (to-ask ξ)) ⊛ Shared κ₀ κ₁ q₀ q₁ 𝓛 (left_first m x y) (left_second m x y) ξ)))
+        (to_other 𝓛 mem go κ₀ κ₁ q₀ q₁ m x y m_fits) $ await ! tt $ pick ! (λ ξ. split ! $
+        calls_at ! fm (Other 𝓛 mem go) known-other (to-ask ξ)
         (and_then ! (copies ! 4 refl) (and_then ! (copies ! 26 refl) (and_then ! (copies ! 30 refl) (no_more !)))) (λ u.
         use2 𝓛 (later (some (λ (k : ℤ). given (Answered m (left_first m x y) (left_second m x y) u k) (raw After))))
-        (other_over 𝓛 mem go κ₀ κ₁ q₀ q₁ m x y ξ h u) $ await ! tt $ pick ! (λ k. learn ! (λ answered. to_end ! $
+        (other_over 𝓛 mem go κ₀ κ₁ q₀ q₁ m x y ξ u) $ await ! tt $ pick ! (λ k. learn ! (λ answered. to_end ! $
         land ! (from ! (stop !)) (init ! 12 refl ((sint_Lawful 𝓛 w32).typed k (u ∷ []) answered.0).0) $
         becomes ! 12 refl (ap only answered.0.0) $
         -- `Ends { total, kept }`
@@ -150,7 +147,7 @@ module _ {M : Type 1} {𝓤 : Ura M} (𝓛 : Logic 𝓤) (mem : Memory → SProp
           kept = answered.1;
           first = refl;
           second = refl;
-        }))))))))))))))))
+        })))))))))))))))
 
 module _ {M : Type 1} {𝓤 : Ura M} (𝓛 : Logic 𝓤) (mem : Memory → SProp 𝓤)
     (go : Routine → Fun 𝓤) where
@@ -183,14 +180,12 @@ module _ {M : Type 1} {𝓤 : Ura M} (𝓛 : Logic 𝓤) (mem : Memory → SProp
       (look-walks 𝓣.C 𝓣.Λ (fm_of 𝓤 H 𝓛.laws 𝓣) known-transform known-front known-other)
 
 pub look_spec : {M : Type 1} → stated.statement M
-unfolding code.routine tables_of
-look_spec 𝓤 𝓛 𝓜 𝓡 =
-    entered 𝓤 𝓛.H (triple_of 𝓛 look.signature (look.spec 𝓛 𝓜.mem 𝓡.run))
-    (tables 𝓤 𝓛.H 𝓜 𝓡 code.env).C (tables 𝓤 𝓛.H 𝓜 𝓡 code.env).Λ #caller·look code.function (code.unfolded 𝓤 𝓛.H 𝓜 𝓡)
-    (look-meets 𝓛 𝓜.mem 𝓡.run (tables_of 𝓤 𝓛.H 𝓜 (tables 𝓤 𝓛.H 𝓜 𝓡 code.env))
-    (cited 𝓤 𝓛.H (Transform 𝓛 𝓜.mem 𝓡.run) 𝓜 𝓡 code.env #transform·transform transform-def.routine
-    code.calls-transform::transform (transform-thm.met 𝓤 𝓛 𝓜 𝓡))
-    (cited 𝓤 𝓛.H (Front 𝓛 𝓜.mem 𝓡.run) 𝓜 𝓡 code.env #caller·front front-def.routine
-    code.calls-caller::front (front-thm.met 𝓤 𝓛 𝓜 𝓡))
-    (cited 𝓤 𝓛.H (Other 𝓛 𝓜.mem 𝓡.run) 𝓜 𝓡 code.env #caller·other other-def.routine
-    code.calls-caller::other (other-thm.met 𝓤 𝓛 𝓜 𝓡)))
+unfolding tables_of
+look_spec 𝓤 𝓛 𝓜 𝓡 wired =
+    entered 𝓤 𝓛.H (triple_of 𝓛 look.signature (look.spec 𝓛 𝓜.mem 𝓡.returns))
+    (tables 𝓤 𝓛.H 𝓜 𝓡 𝓡.env).C (tables 𝓤 𝓛.H 𝓜 𝓡 𝓡.env).Λ #caller·look code.function
+    (code.unfolded 𝓤 𝓛.H 𝓜 𝓡 wired)
+    (look-meets 𝓛 𝓜.mem 𝓡.returns (tables_of 𝓤 𝓛.H 𝓜 (tables 𝓤 𝓛.H 𝓜 𝓡 𝓡.env))
+    (transform-thm.met 𝓤 𝓛 𝓜 𝓡 (code.calls-transform::transform 𝓡.env wired))
+    (front-thm.met 𝓤 𝓛 𝓜 𝓡 (code.calls-caller::front 𝓡.env wired))
+    (other-thm.met 𝓤 𝓛 𝓜 𝓡 (code.calls-caller::other 𝓡.env wired)))

@@ -23,7 +23,7 @@ use prog.Wp.{Calls, Loops, WpFn, Tables}
 use types.Logic.{Logic}
 use contract.Monad.{Fun}
 use contract.Running.{tables, tables_of}
-use types.Kit.{‵, raw, given, ◌⊛◌, some, later, ◌$◌, ◌∵◌, !, qed, by, move, use1, use2, split, pick, learn}
+use types.Kit.{raw, given, ◌⊛◌, some, later, ◌$◌, ◌∵◌, !, qed, by, move, use1, use2, split, pick, learn}
 use types.Kit.{await}
 use types.Run.{look, init, store, stop, from, lit, bin, and_then, no_more, assigns, land, returns, returns_within}
 use types.Run.{enter, params1, pass1, pass0, free1, free0}
@@ -39,7 +39,7 @@ use denote.Signature.{plain}
 use denote.Triple.Spec.{Meets, triple_of}
 use denote.Triple.Statement.{Triple}
 use denote.Triple.Call.{calls_at}
-use denote.Triple.Table.{entered, cited}
+use denote.Triple.Table.{entered}
 use denote.Triple.Walked.{Goes-none, Goes-spent_slice, Walks, walked, walk_Meets}
 use Rattle.rules.specs.Areas.{part_in_first}
 use Rattle.transform.specs.Transformed.{Ran}
@@ -49,7 +49,6 @@ use Rattle.transform.proofs.Calling.{Told, Run, Both, given_to, lent, back}
 use Rattle.transform.proofs.Walking.{differs, to_end, becomes, copies, fronts, reborrows, leaves_if, allocates}
 use Rattle.transform.proofs.Walking.{free_held, frees_held, sized}
 use Rattle.transform.proofs.Edges.{stayed, out, Entered, Post, opened, exits}
-use Rattle.transform.proofs.run.Symbol as run-def
 use Rattle.transform.proofs.run.Symbol.{name as #transform·run}
 use Rattle.transform.proofs.run.Met as run-thm
 use Rattle.transform.specs.contracts.transform as transform
@@ -89,7 +88,7 @@ module _ {M : Type 1} {𝓤 : Ura M} (𝓛 : Logic 𝓤) (mem : Memory → SProp
         reborrows ! refl 6 refl (init ! 14 refl (tt, tt)) (copies ! 14 refl) refl (init ! 16 refl (sized roomy'.0)) $
         -- `run`: for the call the context has two entries in front
         move ! (28 ∷ []) $ use1 𝓛 (later (some (λ (ν : ℕ). some (λ (g : GName × GName).
-        raw ((Run 𝓛 mem go).pre (given_to 𝓛 mem go m x y ν g)) ⊛ ‵ (Kept i32 κ (ν ∷ []) q x y g)))))
+        raw ((Run 𝓛 mem go).pre (given_to 𝓛 mem go m x y ν g)) ⊛ Kept 𝓛 i32 κ (ν ∷ []) q x y g))))
         (lent 𝓛 mem go m x y κ q m_fits) $ await ! tt $ pick ! (λ ν. pick ! (λ g. split ! $
         calls_at ! fm (Run 𝓛 mem go) known (given_to 𝓛 mem go m x y ν g)
         (and_then ! (copies ! 4 refl) (and_then ! (copies ! 14 refl) (and_then ! (copies ! 18 refl) (no_more !)))) (λ w.
@@ -151,12 +150,11 @@ module _ {M : Type 1} {𝓤 : Ura M} (𝓛 : Logic 𝓤) (mem : Memory → SProp
       (transform.clauses 𝓛 mem go) (WpFn 𝓤 H 𝓣.C 𝓣.Λ code.function) (WpFn-mono 𝓤 H 𝓛.laws 𝓣 code.function)
       (transform-walks 𝓣.C 𝓣.Λ (fm_of 𝓤 H 𝓛.laws 𝓣) known)
 
-pub transform-spec : {M : Type 1} → stated.statement M
-unfolding code.routine tables_of
-transform-spec 𝓤 𝓛 𝓜 𝓡 =
-    entered 𝓤 𝓛.H (triple_of 𝓛 transform.signature (transform.spec 𝓛 𝓜.mem 𝓡.run))
-    (tables 𝓤 𝓛.H 𝓜 𝓡 code.env).C (tables 𝓤 𝓛.H 𝓜 𝓡 code.env).Λ #transform·transform code.function
-    (code.unfolded 𝓤 𝓛.H 𝓜 𝓡)
-    (transform-meets 𝓛 𝓜.mem 𝓡.run (tables_of 𝓤 𝓛.H 𝓜 (tables 𝓤 𝓛.H 𝓜 𝓡 code.env))
-    (cited 𝓤 𝓛.H (Run 𝓛 𝓜.mem 𝓡.run) 𝓜 𝓡 code.env #transform·run run-def.routine
-    code.calls-transform::run (run-thm.met 𝓤 𝓛 𝓜 𝓡)))
+pub transform_spec : {M : Type 1} → stated.statement M
+unfolding tables_of
+transform_spec 𝓤 𝓛 𝓜 𝓡 wired =
+    entered 𝓤 𝓛.H (triple_of 𝓛 transform.signature (transform.spec 𝓛 𝓜.mem 𝓡.returns))
+    (tables 𝓤 𝓛.H 𝓜 𝓡 𝓡.env).C (tables 𝓤 𝓛.H 𝓜 𝓡 𝓡.env).Λ #transform·transform code.function
+    (code.unfolded 𝓤 𝓛.H 𝓜 𝓡 wired)
+    (transform-meets 𝓛 𝓜.mem 𝓡.returns (tables_of 𝓤 𝓛.H 𝓜 (tables 𝓤 𝓛.H 𝓜 𝓡 𝓡.env))
+    (run-thm.met 𝓤 𝓛 𝓜 𝓡 (code.calls-transform::run 𝓡.env wired)))
