@@ -27,8 +27,8 @@ fn named(archive: PathBuf) -> PathBuf {
     archive
 }
 
-// Proves the repository's library and writes its archive, again only if the sources changed. What is linked is a copy in
-// cargo's own folder: rt ci takes the archive away, and rt lib writes it anew each time.
+// Proves the repository's library and writes its archive, again only if the sources changed. What is linked is a copy
+// in cargo's own folder: rt ci takes the archive away, and rt lib writes it anew each time.
 fn proved(root: &Path) -> PathBuf {
     println!("cargo:rerun-if-changed={}", root.join("crates.txt").display());
     // not a whole crate, since what rt makes lies in its folder out
