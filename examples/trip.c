@@ -1,7 +1,8 @@
 /*
  * A message is sent and comes back damaged. To build and run it from the repository's root folder:
- *   rt staticlib sharqudel
- *   gcc -std=c99 -Iinclude examples/trip.c target/staticlib/libsharqudel.a -o target/trip && target/trip
+ *   (cd crates/sharqudel && rt lib)
+ *   mkdir -p target
+ *   gcc -std=c99 -Iinclude examples/trip.c crates/sharqudel/out/libsharqudel.a -o target/trip && target/trip
  */
 #include <inttypes.h>
 #include <stdio.h>

@@ -1,7 +1,7 @@
 /*
  * Sharqudel for C: turns message numbers into carrier words and received words back into message numbers, after Davis
- * and Jedwab (1999). `rt staticlib sharqudel` writes the archive target/staticlib/libsharqudel.a. From the C library
- * the archive needs only memcpy and memset.
+ * and Jedwab (1999). `rt lib`, in the folder crates/sharqudel, writes the archive out/libsharqudel.a there. From the C
+ * library the archive needs only memcpy and memset.
  *
  * Shape. h is 1 to 3, and there are 2^h phases; m is 2 to 5, and a word has N = 2^m places. A symbol is a number below
  * 2^h.
