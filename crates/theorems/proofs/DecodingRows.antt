@@ -58,7 +58,7 @@ module _ (h m : ℕ) (ys : List ℤ) where
   pub soft_exactly : (told : Outcome SoftAnswer) → SoftOutcome h m ys told → (o : Outcome SoftAnswer) →
       (told ≡ o) ↔ SoftRow h m ys o
   soft_exactly told p =
-      exactly (SoftRow h m ys) told (row_of_outcome _ _ _ soft_rows told p)
+      exactly (SoftRow h m ys) told (row_of_outcome (SoftRow h m ys) _ _ soft_rows told p)
       (λ o r. soft_outcome_unique h m ys o told (soft_of_row r) p)
 
 module _ (h m : ℕ) (w : List ℕ) where
@@ -91,5 +91,5 @@ module _ (h m : ℕ) (w : List ℕ) where
   pub hard_exactly : (told : Outcome HardAnswer) → HardOutcome h m w told → (o : Outcome HardAnswer) →
       (told ≡ o) ↔ HardRow h m w o
   hard_exactly told p =
-      exactly (HardRow h m w) told (row_of_outcome _ _ _ hard_rows told p)
+      exactly (HardRow h m w) told (row_of_outcome (HardRow h m w) _ _ hard_rows told p)
       (λ o r. hard_outcome_unique h m w o told (hard_of_row r) p)
