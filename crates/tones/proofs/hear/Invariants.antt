@@ -10,7 +10,9 @@ use Rattle.tones.specs.Tones.{seed_at, heard_at}
 use Rattle.tones.proofs.hear.Given as goal
 
 abbrev pub invariant-loop-e : goal.invariant-loop-e
-invariant-loop-e l = Filling (heard_at l.level l.noise l.initial.seed l.four l.word) l.initial.y 0 (length l.initial.y) l.y l.e × (l.seed ≡ seed_at l.initial.seed l.e)
+invariant-loop-e l =
+    Filling (heard_at l.level l.noise l.initial.seed l.four l.word) l.initial.y 0 (length l.initial.y) l.y l.e
+    × (l.seed ≡ seed_at l.initial.seed l.e)
 
 abbrev pub decreases-loop-e : goal.decreases-loop-e
 decreases-loop-e l = length l.initial.y - l.e
