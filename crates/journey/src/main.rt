@@ -10,6 +10,8 @@ use kinds::{MessageNumber, Refusal};
 use pair::Paired;
 use reader::Reading;
 use show::{number, say, symbols};
+use std::io;
+use std::io::Write;
 use tones::Channel;
 
 const H: u32 = 2;
@@ -18,85 +20,86 @@ const M: u32 = 4;
 
 const MESSAGE: u64 = 5120;
 
-fn main() {
+fn main(rt: HostRuntime) -> io::Result<()> {
+    let out = &mut rt.stdout();
     let mut word = [0u8; 16];
     let mut other = [0u8; 16];
-    tell_shape();
-    tell_word(&mut word);
-    tell_partner(&mut other);
-    tell_pair(&word, &other);
-    tell_reading(&word);
+    tell_shape(out)?;
+    tell_word(out, &mut word)?;
+    tell_partner(out, &mut other)?;
+    tell_pair(out, &word, &other)?;
+    tell_reading(out, &word)?;
     let mut y = [0i16; 32];
     hear(&word, &mut y);
     word[7] = 1;
     word[12] = 2;
-    tell_damaged(&word);
-    tell_reading(&word);
-    tell_nearest(&word);
-    tell_heard(&y);
-    tell_loudest(&y);
+    tell_damaged(out, &word)?;
+    tell_reading(out, &word)?;
+    tell_nearest(out, &word)?;
+    tell_heard(out, &y)?;
+    tell_loudest(out, &y)
 }
 
 // The shape, and what follows from it: 2^h phases and 2^m carriers.
-fn tell_shape() {
-    say(b"shape: h = ");
-    number(H as u64);
-    say(b", m = ");
-    number(M as u64);
-    say(b": ");
-    number(shape::power(H));
-    say(b" phases, ");
-    number(shape::power(M));
-    say(b" carriers\n");
+fn tell_shape<W: Write>(out: &mut W) -> io::Result<()> {
+    say(out, b"shape: h = ")?;
+    number(out, H as u64)?;
+    say(out, b", m = ")?;
+    number(out, M as u64)?;
+    say(out, b": ")?;
+    number(out, shape::power(H))?;
+    say(out, b" phases, ")?;
+    number(out, shape::power(M))?;
+    say(out, b" carriers\n")
 }
 
 // Encodes the message.
-fn tell_word(out: &mut [u8]) {
-    say(b"message ");
-    number(MESSAGE);
-    say(b" as a word: ");
-    let answer = encoder::encode(H, M, MessageNumber(MESSAGE), out);
-    tell_written(answer, out);
+fn tell_word<W: Write>(out: &mut W, word: &mut [u8]) -> io::Result<()> {
+    say(out, b"message ")?;
+    number(out, MESSAGE)?;
+    say(out, b" as a word: ")?;
+    let answer = encoder::encode(H, M, MessageNumber(MESSAGE), word);
+    tell_written(out, answer, word)
 }
 
 // Writes the partner of the message's word.
-fn tell_partner(out: &mut [u8]) {
-    say(b"the partner of that word: ");
-    let answer = encoder::partner(H, M, MessageNumber(MESSAGE), out);
-    tell_written(answer, out);
+fn tell_partner<W: Write>(out: &mut W, word: &mut [u8]) -> io::Result<()> {
+    say(out, b"the partner of that word: ")?;
+    let answer = encoder::partner(H, M, MessageNumber(MESSAGE), word);
+    tell_written(out, answer, word)
 }
 
 // What encode and partner answer: the symbols, or the refusal.
-fn tell_written(answer: Written, out: &[u8]) {
+fn tell_written<W: Write>(out: &mut W, answer: Written, word: &[u8]) -> io::Result<()> {
     match answer {
-        Written::Done => symbols(out),
-        Written::Refused(refusal) => tell_refusal(refusal),
+        Written::Done => symbols(out, word)?,
+        Written::Refused(refusal) => tell_refusal(out, refusal)?,
     }
-    say(b"\n");
+    say(out, b"\n")
 }
 
 // Checks whether the two words are a Golay pair.
-fn tell_pair(first: &[u8], second: &[u8]) {
-    say(b"are the two a Golay pair? ");
+fn tell_pair<W: Write>(out: &mut W, first: &[u8], second: &[u8]) -> io::Result<()> {
+    say(out, b"are the two a Golay pair? ")?;
     match pair::check(H, M, first, second) {
-        Paired::Yes => say(b"yes"),
-        Paired::No => say(b"no"),
-        Paired::Refused(refusal) => tell_refusal(refusal),
+        Paired::Yes => say(out, b"yes")?,
+        Paired::No => say(out, b"no")?,
+        Paired::Refused(refusal) => tell_refusal(out, refusal)?,
     }
-    say(b"\n");
+    say(out, b"\n")
 }
 
 // Reads a word back.
-fn tell_reading(word: &[u8]) {
-    say(b"read back: ");
+fn tell_reading<W: Write>(out: &mut W, word: &[u8]) -> io::Result<()> {
+    say(out, b"read back: ")?;
     match reader::read(H, M, word) {
         Reading::Found(message) => {
-            say(b"message ");
-            number(message.0);
+            say(out, b"message ")?;
+            number(out, message.0)?;
         }
-        Reading::Refused(refusal) => tell_refusal(refusal),
+        Reading::Refused(refusal) => tell_refusal(out, refusal)?,
     }
-    say(b"\n");
+    say(out, b"\n")
 }
 
 // What a receiver could hear of the word: the noise can be greater than what it is added to.
@@ -112,68 +115,71 @@ fn hear(word: &[u8], y: &mut [i16]) {
     );
 }
 
-fn tell_damaged(word: &[u8]) {
-    say(b"the same word, changed at places 7 and 12: ");
-    symbols(word);
-    say(b"\n");
+fn tell_damaged<W: Write>(out: &mut W, word: &[u8]) -> io::Result<()> {
+    say(out, b"the same word, changed at places 7 and 12: ")?;
+    symbols(out, word)?;
+    say(out, b"\n")
 }
 
 // Decodes symbols.
-fn tell_nearest(word: &[u8]) {
-    say(b"hard decoding: ");
+fn tell_nearest<W: Write>(out: &mut W, word: &[u8]) -> io::Result<()> {
+    say(out, b"hard decoding: ")?;
     match decoder::hard(H, M, word) {
-        Matched::Found(found) => tell_closest(found),
-        Matched::Refused(refusal) => tell_refusal(refusal),
+        Matched::Found(found) => tell_closest(out, found)?,
+        Matched::Refused(refusal) => tell_refusal(out, refusal)?,
     }
-    say(b"\n");
+    say(out, b"\n")
 }
 
-fn tell_closest(found: Closest) {
+fn tell_closest<W: Write>(out: &mut W, found: Closest) -> io::Result<()> {
     let message = found.message;
-    say(b"message ");
-    number(message.0);
-    say(b" at distance ");
-    number(found.distance as u64);
-    tell_tie(found.tied);
+    say(out, b"message ")?;
+    number(out, message.0)?;
+    say(out, b" at distance ")?;
+    number(out, found.distance as u64)?;
+    tell_tie(out, found.tied)
 }
 
-fn tell_heard(y: &[i16]) {
-    say(b"soft values of the word at level 1000, with noise up to 1200:");
-    show::values(y);
-    say(b"\n");
+fn tell_heard<W: Write>(out: &mut W, y: &[i16]) -> io::Result<()> {
+    say(
+        out,
+        b"soft values of the word at level 1000, with noise up to 1200:",
+    )?;
+    show::values(out, y)?;
+    say(out, b"\n")
 }
 
 // Decodes soft values.
-fn tell_loudest(y: &[i16]) {
-    say(b"soft decoding: ");
+fn tell_loudest<W: Write>(out: &mut W, y: &[i16]) -> io::Result<()> {
+    say(out, b"soft decoding: ")?;
     match decoder::soft(H, M, y) {
-        Heard::Found(found) => tell_correlation(found),
-        Heard::Refused(refusal) => tell_refusal(refusal),
+        Heard::Found(found) => tell_correlation(out, found)?,
+        Heard::Refused(refusal) => tell_refusal(out, refusal)?,
     }
-    say(b"\n");
+    say(out, b"\n")
 }
 
-fn tell_correlation(found: Loudest) {
+fn tell_correlation<W: Write>(out: &mut W, found: Loudest) -> io::Result<()> {
     let message = found.message;
-    say(b"message ");
-    number(message.0);
-    say(b" with correlation ");
-    show::signed(found.correlation);
-    tell_tie(found.tied);
+    say(out, b"message ")?;
+    number(out, message.0)?;
+    say(out, b" with correlation ")?;
+    show::signed(out, found.correlation)?;
+    tell_tie(out, found.tied)
 }
 
 // Whether another word is as good.
-fn tell_tie(tied: bool) {
+fn tell_tie<W: Write>(out: &mut W, tied: bool) -> io::Result<()> {
     if tied {
-        say(b", tied");
+        say(out, b", tied")
     } else {
-        say(b", not tied");
+        say(out, b", not tied")
     }
 }
 
 // A refusal by its number and place, and in words.
-fn tell_refusal(refusal: Refusal) {
-    show::refusal(refusal);
-    say(b": ");
-    show::reason(refusal);
+fn tell_refusal<W: Write>(out: &mut W, refusal: Refusal) -> io::Result<()> {
+    show::refusal(out, refusal)?;
+    say(out, b": ")?;
+    show::reason(out, refusal)
 }

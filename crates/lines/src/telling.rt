@@ -10,69 +10,71 @@ use kinds::MessageNumber;
 use pair::Paired;
 use reader::Reading;
 use show::{number, refusal, say, signed, symbols};
+use std::io;
+use std::io::Write;
 
 // With what the slice holds after the call.
-pub(super) fn tell_written(answer: Written, word: &[u8]) {
+pub(super) fn tell_written<W: Write>(out: &mut W, answer: Written, word: &[u8]) -> io::Result<()> {
     match answer {
-        Written::Done => say(b"done"),
-        Written::Refused(kind) => refusal(kind),
+        Written::Done => say(out, b"done")?,
+        Written::Refused(kind) => refusal(out, kind)?,
     }
-    say(b" [");
-    symbols(word);
-    say(b"]");
+    say(out, b" [")?;
+    symbols(out, word)?;
+    say(out, b"]")
 }
 
-pub(super) fn tell_paired(answer: Paired) {
+pub(super) fn tell_paired<W: Write>(out: &mut W, answer: Paired) -> io::Result<()> {
     match answer {
-        Paired::Yes => say(b"yes"),
-        Paired::No => say(b"no"),
-        Paired::Refused(kind) => refusal(kind),
-    }
-}
-
-pub(super) fn tell_reading(answer: Reading) {
-    match answer {
-        Reading::Found(message) => tell_message(message),
-        Reading::Refused(kind) => refusal(kind),
+        Paired::Yes => say(out, b"yes"),
+        Paired::No => say(out, b"no"),
+        Paired::Refused(kind) => refusal(out, kind),
     }
 }
 
-fn tell_message(message: MessageNumber) {
-    say(b"message ");
-    number(message.0);
+pub(super) fn tell_reading<W: Write>(out: &mut W, answer: Reading) -> io::Result<()> {
+    match answer {
+        Reading::Found(message) => tell_message(out, message),
+        Reading::Refused(kind) => refusal(out, kind),
+    }
 }
 
-pub(super) fn tell_matched(answer: Matched) {
+fn tell_message<W: Write>(out: &mut W, message: MessageNumber) -> io::Result<()> {
+    say(out, b"message ")?;
+    number(out, message.0)
+}
+
+pub(super) fn tell_matched<W: Write>(out: &mut W, answer: Matched) -> io::Result<()> {
     match answer {
         Matched::Found(found) => {
             let message = found.message;
-            tell_message(message);
-            say(b" distance ");
-            number(found.distance as u64);
-            tell_tie(found.tied);
+            tell_message(out, message)?;
+            say(out, b" distance ")?;
+            number(out, found.distance as u64)?;
+            tell_tie(out, found.tied)
         }
-        Matched::Refused(kind) => refusal(kind),
+        Matched::Refused(kind) => refusal(out, kind),
     }
 }
 
-pub(super) fn tell_heard(answer: Heard) {
+pub(super) fn tell_heard<W: Write>(out: &mut W, answer: Heard) -> io::Result<()> {
     match answer {
         Heard::Found(found) => {
             let message = found.message;
-            tell_message(message);
-            say(b" correlation ");
-            signed(found.correlation);
-            tell_tie(found.tied);
+            tell_message(out, message)?;
+            say(out, b" correlation ")?;
+            signed(out, found.correlation)?;
+            tell_tie(out, found.tied)
         }
-        Heard::Refused(kind) => refusal(kind),
+        Heard::Refused(kind) => refusal(out, kind),
     }
 }
 
 // Whether another word is as good.
-fn tell_tie(tied: bool) {
+fn tell_tie<W: Write>(out: &mut W, tied: bool) -> io::Result<()> {
     if tied {
-        say(b" tied");
+        say(out, b" tied")
     } else {
-        say(b" not tied");
+        say(out, b" not tied")
     }
 }

@@ -4,6 +4,8 @@ ghost use Rattle.lines.specs.Front.{HasFront};
 use crate::entries::take_list;
 use crate::parse::{MOST, ends, take_name, take_small};
 use crate::telling::tell_heard;
+use std::io;
+use std::io::Write;
 
 // A number as one of 16 bits, where it fits.
 #[derive(Clone, Copy)]
@@ -13,27 +15,27 @@ enum Short {
 }
 
 // Whether a line is such; it is then answered.
-pub(super) fn answered(line: &[u8]) -> bool {
+pub(super) fn answered<W: Write>(out: &mut W, line: &[u8]) -> io::Result<bool> {
     let mut entries = [0i32; MOST];
     let h = take_small(line, take_name(line, b"soft"));
     let m = take_small(line, h);
     let list = take_list(line, m, &mut entries);
     if !ends(line, list) {
-        return false;
+        return Ok(false);
     }
     let n = list.value as usize;
-    told(h.value as u32, m.value as u32, &entries[..n])
+    told(out, h.value as u32, m.value as u32, &entries[..n])
 }
 
 // Soft decoding of a list, if all of it fits soft values.
-fn told(h: u32, m: u32, list: &[i32]) -> bool {
+fn told<W: Write>(out: &mut W, h: u32, m: u32, list: &[i32]) -> io::Result<bool> {
     let mut values = [0i16; MOST];
     let n = narrow(list, &mut values);
     if n < list.len() {
-        return false;
+        return Ok(false);
     }
-    tell_heard(decoder::soft(h, m, &values[..n]));
-    true
+    tell_heard(out, decoder::soft(h, m, &values[..n]))?;
+    Ok(true)
 }
 
 // Puts the numbers of a list at the front of the values, up to the first that does not fit, and answers how many.

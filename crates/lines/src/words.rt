@@ -10,6 +10,8 @@ use crate::parse::{MOST, Piece, ends, take_large, take_name, take_small};
 use crate::symbols::take_word;
 use crate::telling::{tell_matched, tell_paired, tell_reading, tell_written};
 use kinds::MessageNumber;
+use std::io;
+use std::io::Write;
 
 #[derive(Clone, Copy)]
 enum Call {
@@ -21,15 +23,17 @@ enum Call {
 }
 
 // Whether a line is one of these; it is then answered.
-pub(super) fn answered(line: &[u8]) -> bool {
-    called(line, b"encode", Call::Encode)
-        || called(line, b"partner", Call::Partner)
-        || called(line, b"pair", Call::Pair)
-        || called(line, b"read", Call::Read)
-        || called(line, b"hard", Call::Hard)
+pub(super) fn answered<W: Write>(out: &mut W, line: &[u8]) -> io::Result<bool> {
+    Ok(
+        called(out, line, b"encode", Call::Encode)?
+            || called(out, line, b"partner", Call::Partner)?
+            || called(out, line, b"pair", Call::Pair)?
+            || called(out, line, b"read", Call::Read)?
+            || called(out, line, b"hard", Call::Hard)?,
+    )
 }
 
-fn called(line: &[u8], name: &[u8], call: Call) -> bool {
+fn called<W: Write>(out: &mut W, line: &[u8], name: &[u8], call: Call) -> io::Result<bool> {
     let mut first = [0u8; MOST];
     let mut second = [0u8; MOST];
     let h = take_small(line, take_name(line, name));
@@ -38,19 +42,20 @@ fn called(line: &[u8], name: &[u8], call: Call) -> bool {
     let word = take_word(line, message, &mut first);
     let other = other_of(line, word, call, &mut second);
     if !ends(line, other) {
-        return false;
+        return Ok(false);
     }
     let n = word.value as usize;
     let k = other.value as usize;
     tell(
+        out,
         call,
         h.value as u32,
         m.value as u32,
         message.value,
         &mut first[..n],
         &second[..k],
-    );
-    true
+    )?;
+    Ok(true)
 }
 
 // The message number, which only encode and partner have.
@@ -71,18 +76,26 @@ fn other_of(line: &[u8], before: Piece, call: Call, word: &mut [u8]) -> Piece
     before.with(0)
 }
 
-fn tell(call: Call, h: u32, m: u32, message: u64, word: &mut [u8], other: &[u8]) {
+fn tell<W: Write>(
+    out: &mut W,
+    call: Call,
+    h: u32,
+    m: u32,
+    message: u64,
+    word: &mut [u8],
+    other: &[u8],
+) -> io::Result<()> {
     match call {
         Call::Encode => {
             let answer = encoder::encode(h, m, MessageNumber(message), word);
-            tell_written(answer, word);
+            tell_written(out, answer, word)
         }
         Call::Partner => {
             let answer = encoder::partner(h, m, MessageNumber(message), word);
-            tell_written(answer, word);
+            tell_written(out, answer, word)
         }
-        Call::Pair => tell_paired(pair::check(h, m, word, other)),
-        Call::Read => tell_reading(reader::read(h, m, word)),
-        Call::Hard => tell_matched(decoder::hard(h, m, word)),
+        Call::Pair => tell_paired(out, pair::check(h, m, word, other)),
+        Call::Read => tell_reading(out, reader::read(h, m, word)),
+        Call::Hard => tell_matched(out, decoder::hard(h, m, word)),
     }
 }

@@ -2,6 +2,8 @@
 // (tests/papers.md).
 #![tactic(auto)]
 
-fn main() {
-    lines::run();
+use std::io;
+
+fn main(rt: HostRuntime) -> io::Result<()> {
+    lines::run(&mut rt.stdin(), &mut rt.stdout())
 }

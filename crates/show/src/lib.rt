@@ -1,114 +1,118 @@
-// Writes text, numbers, words, areas, soft values and refusals to standard output, for the programs. No contract can
-// speak of what is written; each function is proved to stay within its slice and to end.
+// Writes text, numbers, words, areas, soft values and refusals, for the programs, which give the writer. No contract
+// speaks of what is written; each function is proved to stay within its slice and to end. The first write that fails is
+// the last, and its error is the answer.
 #![tactic(auto)]
 
 use kinds::Refusal;
-use libc::STDOUT_FILENO;
+use std::io;
+use std::io::Write;
 
-pub fn say(text: &[u8]) {
-    io::write_all(STDOUT_FILENO, text);
+pub fn say<W: Write>(out: &mut W, text: &[u8]) -> io::Result<()> {
+    out.write_all(text)
 }
 
-pub fn number(x: u64) {
-    io::print_decimal(STDOUT_FILENO, x);
+pub fn number<W: Write>(out: &mut W, x: u64) -> io::Result<()> {
+    write!(out, "{x}")
 }
 
 // A signed number, with its sign where it is below zero.
-pub fn signed(x: i32) {
+pub fn signed<W: Write>(out: &mut W, x: i32) -> io::Result<()> {
     let wide = x as i64;
     if wide < 0 {
-        say(b"-");
-        number((0 - wide) as u64);
+        say(out, b"-")?;
+        number(out, (0 - wide) as u64)
     } else {
-        number(wide as u64);
+        number(out, wide as u64)
     }
 }
 
 // The entries of an area in brackets, with a space between two, as the case files have them.
-pub fn area(entries: &[i32]) {
-    say(b"[");
+pub fn area<W: Write>(out: &mut W, entries: &[i32]) -> io::Result<()> {
+    say(out, b"[")?;
     let mut i = 0;
     while i < entries.len() {
-        entry(i, entries[i]);
+        entry(out, i, entries[i])?;
         i += 1;
     }
-    say(b"]");
+    say(out, b"]")
 }
 
 // The entry at a place of its area.
-fn entry(place: usize, x: i32) {
+fn entry<W: Write>(out: &mut W, place: usize, x: i32) -> io::Result<()> {
     if place == 0 {
-        signed(x);
+        signed(out, x)
     } else {
-        spaced(x);
+        spaced(out, x)
     }
 }
 
-fn spaced(x: i32) {
-    say(b" ");
-    signed(x);
+fn spaced<W: Write>(out: &mut W, x: i32) -> io::Result<()> {
+    say(out, b" ")?;
+    signed(out, x)
 }
 
 // Soft values in brackets, with a space before each and before the brackets.
-pub fn values(y: &[i16]) {
-    say(b" [");
+pub fn values<W: Write>(out: &mut W, y: &[i16]) -> io::Result<()> {
+    say(out, b" [")?;
     let mut i = 0;
     while i < y.len() {
-        value(y[i]);
+        value(out, y[i])?;
         i += 1;
     }
-    say(b" ]");
+    say(out, b" ]")
 }
 
-fn value(x: i16) {
-    spaced(x as i32);
+fn value<W: Write>(out: &mut W, x: i16) -> io::Result<()> {
+    spaced(out, x as i32)
 }
 
 // The symbols of a word, one behind the other, without brackets.
-pub fn symbols(word: &[u8]) {
+pub fn symbols<W: Write>(out: &mut W, word: &[u8]) -> io::Result<()> {
     let mut i = 0;
     while i < word.len() {
-        symbol(word[i]);
+        symbol(out, word[i])?;
         i += 1;
     }
+    Ok(())
 }
 
 // A symbol as a digit, or in parentheses where it needs more than one.
-fn symbol(x: u8) {
+fn symbol<W: Write>(out: &mut W, x: u8) -> io::Result<()> {
     if x < 10 {
-        number(x as u64);
+        number(out, x as u64)
     } else {
-        say(b"(");
-        number(x as u64);
-        say(b")");
+        say(out, b"(")?;
+        number(out, x as u64)?;
+        say(out, b")")
     }
 }
 
 // A refusal by its number in the table of 01, with its place and its word where it carries them.
-pub fn refusal(why: Refusal) {
-    say(b"refused ");
-    number(kinds::number(why) as u64);
+pub fn refusal<W: Write>(out: &mut W, why: Refusal) -> io::Result<()> {
+    say(out, b"refused ")?;
+    number(out, kinds::number(why) as u64)?;
     let carried = kinds::carries(why);
     if 0 < carried.count {
-        say(b" at place ");
-        number(carried.first as u64);
+        say(out, b" at place ")?;
+        number(out, carried.first as u64)?;
     }
     if 1 < carried.count {
-        say(b" of word ");
-        number(carried.second as u64);
+        say(out, b" of word ")?;
+        number(out, carried.second as u64)?;
     }
+    Ok(())
 }
 
 // A refusal in words.
-pub fn reason(why: Refusal) {
+pub fn reason<W: Write>(out: &mut W, why: Refusal) -> io::Result<()> {
     match kinds::number(why) {
-        1 => say(b"h or m is out of range"),
-        2 => say(b"wrong slice length for this shape"),
-        3 => say(b"a symbol is too large"),
-        4 => say(b"message number too large for this shape"),
-        5 => say(b"no message has this word"),
-        6 => say(b"decoding of eight phases (h = 3) is not supported"),
-        7 => say(b"a value is out of range"),
-        _ => say(b"see the table of refusals"),
+        1 => say(out, b"h or m is out of range"),
+        2 => say(out, b"wrong slice length for this shape"),
+        3 => say(out, b"a symbol is too large"),
+        4 => say(out, b"message number too large for this shape"),
+        5 => say(out, b"no message has this word"),
+        6 => say(out, b"decoding of eight phases (h = 3) is not supported"),
+        7 => say(out, b"a value is out of range"),
+        _ => say(out, b"see the table of refusals"),
     }
 }

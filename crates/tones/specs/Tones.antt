@@ -8,11 +8,12 @@
 --                                   imaginary part of its places by turns. Behind the word stand symbols 0
 --           moved v n s             a raised value off by at most n either way, drawn from s; not below 0
 --           lowered v               the value that a raised one stands for
---           heard_at a n s four w e  value e of what is heard of w, at level a, with noise n drawn from s on
+--           heard_at a n s four w e value e of what is heard of w, at level a, with noise n drawn from s on
 --           Sounded c w d r d'      what `hear` promises: the seed to go on with, and the values in the slice that
 --                                   held d
 -- Laws: proofs/ToneLaws.antt.  Assumes nothing: these are definitions.
-use Rattle.std.specs.Prelude.{ℕ, zero, suc, ◌+◌, ◌-◌, ◌*◌, ◌/◌, ◌%◌, min, ◌≡◌, Bool, true, false, cond, List, eqb, ltb, ℤ, pos, ◌-ℤ◌, length, get_or}
+use Rattle.std.specs.Prelude.{ℕ, zero, suc, ◌+◌, ◌-◌, ◌*◌, ◌/◌, ◌%◌, min, ◌≡◌, Bool, true, false, cond, List, eqb, ltb}
+use Rattle.std.specs.Prelude.{ℤ, pos, ◌-ℤ◌, length, get_or}
 use Rattle.range.specs.Below.{list_below}
 use Rattle.tones.specs.declared.Channel.{Channel}
 

@@ -6,11 +6,9 @@ use mathlib.Core.Bool.{Bool, true, false}
 use mathlib.Core.List.{List}
 use lib.Dec.{eqb, ltb}
 use lib.ListN.{get_or}
-use borrow.Author.Rules.{rules}
-use borrow.Author.Tests.{eq-eqb, ne_eqb, not-true, not-false}
+use borrow.Author.Tests.{eq-eqb, ne_eqb}
 use Rattle.tones.specs.Tones.{side, tone}
-use Rattle.tones.proofs.tone.Statement.{statement}
-use Rattle.tones.proofs.tone.Tie as tie
+use Rattle.tones.proofs.tone.Goals as goal
 
 -- by the number of phases, and for four by whether the value is the part that the symbol stands on
 module _ (a : ℕ) (four : Bool) (w : List ℕ) (e s : ℕ) where
@@ -27,24 +25,18 @@ module _ (a : ℕ) (four : Bool) (w : List ℕ) (e s : ℕ) where
     unfolding tone
     tone-part p = rw (f, ← q, eq-eqb (s % 2) (e % 2) p)
 
-returns : tie.Need-returns
+pub returns-then-not-four : goal.returns-then-not-four
+returns-then-not-four c =
+    let at = c.before in
+    c.side.ensures ∙ tone-two _ _ _ _ _ at.if-not-four.true at.symbol.ensures
+
+pub returns-then-s-e : goal.returns-then-s-e
+returns-then-s-e c =
+    let at = c.before in
+    tone-none _ _ _ _ _ at.if-not-four.false at.symbol-s.ensures c.if-s-e.true
+
+pub returns : goal.returns
 returns c =
-    let at = c.before in
-    c.side.ensures ∙ tone-two _ _ _ _ _ (not-true _ at.before.if1.true) at.symbol.ensures
-
-returns-2 : tie.Need-returns-2
-returns-2 c =
-    let at = c.before in
-    tone-none _ _ _ _ _ (not-false _ at.before.if1.false) at.symbol2.ensures c.if2.true
-
-returns-3 : tie.Need-returns-3
-returns-3 c =
     let at = c.before.before in
-    c.side2.ensures
-    ∙ tone-part _ _ _ _ _ (not-false _ at.before.if1.false) at.symbol2.ensures c.before.if2.false
-
-pub tone-spec : {M : Type 1} → statement M
-tone-spec =
-    tie.close
-    (tie.spec (λ c. search rules) (λ c. search rules) returns (λ c. search rules) returns-2 (λ c. search rules)
-    returns-3)
+    c.side-2.ensures
+    ∙ tone-part _ _ _ _ _ at.if-not-four.false at.symbol-s.ensures c.if-s-e.false

@@ -1,0 +1,18 @@
+-- `tones::hear` meets its contract: turn after turn the generator goes one number on and a value is written.
+-- Invariant: a loop over the whole slice, which writes, stands at e, and the seed is the e-th. Measure: the values
+-- left.
+-- Assumes nothing.
+use Prim.Native.Nat.{◌-◌}
+use mathlib.Core.Path.{◌≡◌}
+use lib.ListN.{length}
+use Rattle.range.proofs.Fills.{Filling}
+use Rattle.tones.specs.Tones.{seed_at, heard_at}
+use Rattle.tones.proofs.hear.Given as goal
+
+abbrev pub invariant-loop-e : goal.invariant-loop-e
+invariant-loop-e l =
+    Filling (heard_at l.level l.noise l.initial.seed l.four l.word) l.initial.y 0 (length l.initial.y) l.y l.e
+    × (l.seed ≡ seed_at l.initial.seed l.e)
+
+abbrev pub decreases-loop-e : goal.decreases-loop-e
+decreases-loop-e l = length l.initial.y - l.e
