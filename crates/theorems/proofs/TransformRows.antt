@@ -2,7 +2,7 @@
 -- what the rules say is told, and every row that holds says that. In order: the first value out of range; the row that
 -- holds; what the rows say.
 -- Not here: what the transform then does (Transforming); other calls (Rows, PairRows, DecodingRows).  Assumes nothing.
-use Prim.Native.Nat.{ℕ, ◌-◌, ◌≤◌, ◌<◌}
+use Prim.Native.Nat.{ℕ, ◌≤◌, ◌<◌}
 use mathlib.Core.Path.{◌≡◌, sym, ap}
 use mathlib.Core.Bool.{Bool, true, false, not, ◌||◌, false≢true}
 use mathlib.Core.List.{List, []}

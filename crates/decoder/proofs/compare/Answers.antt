@@ -1,7 +1,7 @@
 -- `decoder::compare` meets its contract: number after number, the table takes the gain of its place and symbol.
 -- Invariant: a loop over the whole table, which writes, stands at e. Measure: the numbers left.
 -- Assumes nothing.
-use Prim.Native.Nat.{ℕ, ◌-◌, ◌/◌, ◌%◌, ◌<◌}
+use Prim.Native.Nat.{ℕ, ◌/◌, ◌%◌, ◌<◌}
 use native.Mathlib.Omega.{arith}
 use mathlib.Core.Path.{◌≡◌, ◌∙◌, ap}
 use lib.ListN.{length}

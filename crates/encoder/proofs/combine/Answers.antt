@@ -1,7 +1,7 @@
 -- `encoder::combine` meets its contract: place after place it writes the symbol.
 -- Invariant: the first i places hold their symbols, the others are as they were. Measure: the places left.
 -- Assumes nothing.
-use Prim.Native.Nat.{◌-◌, ◌<◌}
+use Prim.Native.Nat.{◌<◌}
 use native.Mathlib.Omega.{arith}
 use mathlib.Core.Path.{refl}
 use lib.ListN.{length, length-set}

@@ -1,7 +1,7 @@
 -- `encoder::digits` meets its contract: place after place the row takes the digit x_r.
 -- Invariant: the first i places hold their digits, the others are as they were. Measure: the places left.
 -- Assumes nothing.
-use Prim.Native.Nat.{ℕ, ◌-◌, ◌/◌, ◌%◌, ◌^◌, ◌≤◌}
+use Prim.Native.Nat.{ℕ, ◌/◌, ◌%◌, ◌^◌}
 use mathlib.Core.Path.{ap}
 use mathlib.Core.List.{List}
 use lib.Dec.{lit≤}

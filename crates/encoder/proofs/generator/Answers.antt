@@ -1,6 +1,6 @@
 -- `encoder::generator` meets its contract: it starts with rows of ones, and each turn puts the digits into one row.
 -- Invariant: the rows before r are the generator's. Measure: the rows left.  Assumes nothing.
-use Prim.Native.Nat.{◌+◌, ◌-◌, ◌≤◌}
+use Prim.Native.Nat.{◌+◌}
 use native.Mathlib.Omega.{arith}
 use mathlib.Core.Path.{refl, ◌∙◌}
 use lib.Dec.{lit≤}

@@ -1,6 +1,6 @@
 -- `encoder::linear` meets its contract: each turn adds one row.
 -- Invariant: the sum is that of the rows before r. Measure: the rows left.  Assumes nothing.
-use Prim.Native.Nat.{ℕ, ◌-◌, ◌*◌, ◌≤◌}
+use Prim.Native.Nat.{ℕ, ◌*◌, ◌≤◌}
 use native.Mathlib.Omega.{arith}
 use mathlib.Core.Path.{◌≡◌, refl, ◌∙◌, ap}
 use lib.ListN.{get_or}

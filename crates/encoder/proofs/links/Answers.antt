@@ -1,6 +1,6 @@
 -- `encoder::links` meets its contract: each turn adds one link.
 -- Invariant: the sum is that of the links before k. Measure: the links left.  Assumes nothing.
-use Prim.Native.Nat.{ℕ, ◌+◌, ◌-◌, ◌*◌, ◌≤◌}
+use Prim.Native.Nat.{ℕ, ◌+◌, ◌*◌, ◌≤◌}
 use native.Mathlib.Omega.{arith}
 use mathlib.Core.Path.{◌≡◌, refl, ◌∙◌, ap, ap₂}
 use lib.ListN.{get_or}

@@ -4,9 +4,8 @@
 use Prim.Native.Nat.{ℕ, suc, ◌-◌}
 use native.Mathlib.Omega.{arith}
 use mathlib.Core.Path.{◌≡◌, sym, subst}
-use Rattle.engine.specs.SearchTables.{Climbing}
 use Rattle.engine.proofs.Climbing.{wanted, none_left, some_left, climbing_last, climbing_done, climbing_room}
-use Rattle.engine.proofs.Climbing.{climbing_product, climbing_next, climbing_returned}
+use Rattle.engine.proofs.Climbing.{climbing_next, climbing_returned}
 use Rattle.engine.proofs.+climb.Goals as goal
 
 pub finish-requires-clause-q_bound : goal.finish-requires-clause-q_bound

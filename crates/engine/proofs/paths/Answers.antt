@@ -1,7 +1,7 @@
 -- `engine::paths` meets its contract: the labels of one path after the other are all labels.
 -- Invariant: the labels before first, those of n paths, are gone through. Measure: the paths left.
 -- Assumes nothing.
-use Prim.Native.Nat.{ℕ, ◌+◌, ◌-◌, ◌*◌, ◌≤◌}
+use Prim.Native.Nat.{ℕ, ◌+◌, ◌*◌, ◌≤◌}
 use native.Mathlib.Nat.{zero-add}
 use native.Mathlib.Omega.{arith}
 use mathlib.Core.Path.{◌≡◌, refl, sym, ◌∙◌, ap}

@@ -1,10 +1,8 @@
 -- `engine::small` meets its contract: the loop has passed no gain that is too great, and stops at the first.
 -- Invariant: each gain before i is small enough. Measure: the gains left.
 -- Assumes nothing.
-use Prim.Native.Nat.{◌-◌}
 use native.Mathlib.Omega.{arith}
 use mathlib.Core.Path.{sym}
-use mathlib.Core.Bool.{true}
 use lib.ListN.{length}
 use borrow.Author.Tests.{lt-leb}
 use Rattle.range.proofs.Tests.{all_below_of, all_below_not}

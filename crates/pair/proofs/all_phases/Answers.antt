@@ -1,7 +1,7 @@
 -- `pair::all_phases` meets its contract: the loop has passed no phase whose counts differ, and stops at the first.
 -- Invariant: k is at most q, and the counts agree for each phase before k. Measure: the phases left.
 -- Assumes nothing.
-use Prim.Native.Nat.{◌-◌, ◌/◌}
+use Prim.Native.Nat.{◌/◌}
 use native.Mathlib.Omega.{arith}
 use mathlib.Core.Path.{◌≡◌, sym, ◌∙◌}
 use borrow.Author.Tests.{eq-eqb, ne_eqb}

@@ -1,10 +1,8 @@
 -- `pair::all_shifts` meets its contract: the loop has passed no shift where counts differ, and stops at the first.
 -- Invariant: u is at least 1, and the counts agree at each shift from 1 to before u. Measure: what is left of a word.
 -- Assumes nothing.
-use Prim.Native.Nat.{◌-◌}
 use native.Mathlib.Omega.{arith}
 use mathlib.Core.Path.{sym, ◌∙◌}
-use mathlib.Core.Bool.{true}
 use lib.ListN.{length}
 use Rattle.range.proofs.FromOne.{from_one_of, from_one_not}
 use Rattle.rules.specs.Pair.{golay_pair, phases_agree}

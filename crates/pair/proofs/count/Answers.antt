@@ -1,7 +1,7 @@
 -- `pair::count` meets its contract: each turn counts its place where the difference is k modulo 2^h.
 -- Invariant: j is from u to the length, and `found` is the count of the first j symbols. Measure: the symbols left.
 -- Assumes nothing.
-use Prim.Native.Nat.{◌-◌, ◌≤◌}
+use Prim.Native.Nat.{◌≤◌}
 use native.Mathlib.Omega.{arith}
 use mathlib.Core.Path.{◌≡◌, ◌∙◌}
 use Rattle.rules.specs.Shape.{phases}

@@ -1,6 +1,6 @@
 -- `steps::steps` meets its contract: the constants are the table of the paths in use, which antt computes and compares.
 -- Assumes nothing.
-use Prim.Native.Nat.{◌-◌, ◌≤◌, ◌<◌}
+use Prim.Native.Nat.{◌≤◌, ◌<◌}
 use mathlib.Core.Path.{sym, ◌∙◌}
 use mathlib.Core.List.{flat_map}
 use Rattle.range.specs.Below.{sum_below, list_below, rows_below}

@@ -1,6 +1,6 @@
 -- `steps::unpack` meets its contract: step after step it takes the digit out of the number.
 -- Invariant: the first k steps are taken, the others are 0. Measure: the steps left.  Assumes nothing.
-use Prim.Native.Nat.{ℕ, ◌-◌, ◌<◌}
+use Prim.Native.Nat.{ℕ, ◌<◌}
 use native.Mathlib.Omega.{arith}
 use mathlib.Core.Path.{◌≡◌, refl, ◌∙◌, ap}
 use Rattle.range.specs.Below.{filled}

@@ -1,7 +1,6 @@
 -- `engine::scan::last` meets its contract: the labels of one coefficient after the other.
 -- Invariant: the standing is that after the labels of the coefficients before c. Measure: the coefficients left.
 -- Assumes nothing.
-use Prim.Native.Nat.{◌-◌}
 use native.Mathlib.Omega.{arith}
 use Rattle.standing.proofs.Lead.{lead_from_none}
 use Rattle.engine.proofs.Counting.{blocks_next}

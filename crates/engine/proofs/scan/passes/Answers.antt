@@ -1,7 +1,7 @@
 -- `engine::scan::passes` meets its contract: where no two runs reach above the second best, no sum does.
 -- Invariant: no sum of the symbols before s passes it. Measure: the symbols left.
 -- Assumes nothing.
-use Prim.Native.Nat.{ℕ, ◌-◌, ◌≤◌, ◌<◌}
+use Prim.Native.Nat.{ℕ, ◌≤◌, ◌<◌}
 use native.Mathlib.Omega.{arith}
 use Rattle.range.proofs.Tests.{below_next}
 use Rattle.totals.specs.Climb.{pair_at}

@@ -1,7 +1,6 @@
 -- `engine::scan::row` meets its contract: value after value, each of the next label.
 -- Invariant: the standing is that after the first s values. Measure: the constants left.
 -- Assumes nothing.
-use Prim.Native.Nat.{◌-◌}
 use native.Mathlib.Omega.{arith}
 use mathlib.Core.Path.{◌∙◌}
 use Rattle.standing.proofs.Lead.{lead_from_none, lead_from_turn}

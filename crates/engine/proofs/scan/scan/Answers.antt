@@ -1,7 +1,6 @@
 -- `engine::scan::scan` meets its contract: row after row.
 -- Invariant: the standing is that after the first i rows. Measure: the rows left.
 -- Assumes nothing.
-use Prim.Native.Nat.{◌-◌}
 use native.Mathlib.Omega.{arith}
 use Rattle.standing.proofs.Lead.{lead_from_none}
 use Rattle.engine.proofs.Counting.{rows_next}

@@ -2,7 +2,7 @@
 -- Invariants: the first c runs are written, and b is run t, c symbols further on; of the next run r numbers are
 -- written. Measures: the runs and the numbers left.
 -- Assumes nothing.
-use Prim.Native.Nat.{◌+◌, ◌-◌, ◌*◌, ◌≤◌, ◌<◌}
+use Prim.Native.Nat.{◌+◌, ◌*◌, ◌≤◌, ◌<◌}
 use native.Mathlib.Nat.{mod-lt, mod-eq_of_lt}
 use native.Mathlib.Omega.{arith}
 use mathlib.Core.Path.{◌≡◌, sym, ◌∙◌, subst}

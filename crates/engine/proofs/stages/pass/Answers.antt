@@ -1,7 +1,7 @@
 -- `engine::stages::pass` meets its contract: the runs of t, one t after the other.
 -- Invariant: the runs before t are written. Measure: what is left of them.
 -- Assumes nothing.
-use Prim.Native.Nat.{ℕ, ◌+◌, ◌-◌, ◌*◌, ◌≤◌}
+use Prim.Native.Nat.{ℕ, ◌+◌, ◌*◌, ◌≤◌}
 use native.Mathlib.Omega.{arith}
 use mathlib.Core.Path.{◌≡◌, ◌∙◌, ap}
 use Rattle.range.proofs.Products.{times_within}

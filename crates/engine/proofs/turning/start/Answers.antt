@@ -1,7 +1,7 @@
 -- `engine::turning::start` meets its contract: a run for each symbol, one after the other.
 -- Invariant: the runs of the symbols before s are written. Measure: the symbols left.
 -- Assumes nothing.
-use Prim.Native.Nat.{ℕ, ◌-◌, ◌*◌}
+use Prim.Native.Nat.{ℕ, ◌*◌}
 use native.Mathlib.Omega.{arith}
 use mathlib.Core.Path.{◌≡◌, ◌∙◌, ap}
 use lib.ListN.{length}

@@ -1,7 +1,7 @@
 -- `engine::turning::turn` meets its contract: place after place, the gain that stands the word's symbol further on.
 -- Invariant: i places of the run are written. Measure: the places left.
 -- Assumes nothing.
-use Prim.Native.Nat.{◌+◌, ◌-◌, ◌*◌, ◌<◌}
+use Prim.Native.Nat.{◌+◌, ◌*◌, ◌<◌}
 use native.Mathlib.Omega.{arith}
 use mathlib.Core.Path.{◌≡◌}
 use lib.ListN.{length, get_or}

@@ -1,10 +1,10 @@
 -- `refusals::table::bad_symbol` meets its contract: the loop has passed no symbol that is 2^h or more, and stops at the
 -- first. Invariant: i is at most the length, and each symbol before i is below 2^h. Measure: what is left of the word.
 -- Assumes nothing.
-use Prim.Native.Nat.{ℕ, ◌-◌}
+use Prim.Native.Nat.{ℕ}
 use native.Mathlib.Omega.{arith}
 use mathlib.Core.Path.{◌≡◌, sym, ◌∙◌, ap}
-use mathlib.Core.Bool.{Bool, false}
+use mathlib.Core.Bool.{Bool}
 use lib.Dec.{leb}
 use lib.ListN.{length}
 use Rattle.range.proofs.Tests.{first_below_some, first_below_none}

@@ -8,7 +8,6 @@ use lib.Dec.{leb}
 use lib.ListN.{length}
 use Rattle.rules.specs.Shape.{phases}
 use Rattle.rules.specs.Word.{symbol_at}
-use Rattle.rules.specs.Table.{bad_symbol}
 use Rattle.refusals.proofs.table.bad_symbol.Given as goal
 
 abbrev pub invariant-loop-i : goal.invariant-loop-i

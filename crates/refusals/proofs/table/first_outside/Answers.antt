@@ -1,10 +1,10 @@
 -- `refusals::table::first_outside` meets its contract: the loop has passed no entry that is out of range, and stops at
 -- the first. Invariant: i is at most n, and each entry before i is accepted. Measure: what is left of the n entries.
 -- Assumes nothing.
-use Prim.Native.Nat.{ℕ, ◌-◌}
+use Prim.Native.Nat.{ℕ}
 use native.Mathlib.Omega.{arith}
 use mathlib.Core.Path.{◌≡◌, sym, ◌∙◌, ap}
-use mathlib.Core.Bool.{Bool, false, not}
+use mathlib.Core.Bool.{Bool, not}
 use mir.Syntax.{w32}
 use mir.ValLaws.{to_z-of_z}
 use Rattle.range.specs.Signed.{entry}
