@@ -2,7 +2,7 @@
 -- Defines:  loudest_told a, closest_told a  what is found, with its message number as a number
 --           heard_told r     an answer of soft decoding, as an outcome
 --           matched_told r   an answer of hard decoding
---           Hears h m ys r, Matches h m w r    the promises: rules' SoftOutcome and HardOutcome of what is told
+--           Hears h m ys r, Matches h m w r  the promises: rules' SoftOutcome and HardOutcome of what is told
 -- Laws: proofs/Unique.antt (only one answer satisfies each).  Assumes nothing: these are definitions.
 use Rattle.std.specs.Prelude.{ℕ, List, ℤ}
 use Rattle.rules.specs.Outcome.{Outcome, gives}

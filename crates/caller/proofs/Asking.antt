@@ -24,7 +24,8 @@ use prog.Memory.{Memory}
 use prog.Routine.{Routine}
 use types.Logic.{Logic}
 use contract.Monad.{Fun, fact}
-use types.Kit.{Item, mean, ‵, raw, ◌⊛◌, some, later, ◌$◌, ◌∵◌, !, qed, move, keep, use1, use2, split, split3, join, pick}
+use types.Kit.{Item, mean, ‵, raw, ◌⊛◌, some, later, ◌$◌, ◌∵◌, !, qed, move, keep, use1, use2, split, split3, join}
+use types.Kit.{pick}
 use types.Kit.{check, drop, fjoin, show, await, updating, now as at_once, done}
 use types.Tokens.{lft_new, lft_end}
 use borrow.Table.Copies.{c_s_int, Shares-copy}

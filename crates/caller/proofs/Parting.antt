@@ -26,7 +26,8 @@ use prog.Memory.{Memory}
 use prog.Routine.{Routine}
 use types.Logic.{Logic, sem}
 use contract.Monad.{Fun, fact}
-use types.Kit.{Item, mean, ‵, raw, given, ◌⊛◌, some, later, ◌$◌, ◌∵◌, !, qed, move, keep, use1, use3, rewrite, split, join}
+use types.Kit.{Item, mean, ‵, raw, given, ◌⊛◌, some, later, ◌$◌, ◌∵◌, !, qed, move, keep, use1, use3, rewrite, split}
+use types.Kit.{join}
 use types.Kit.{pick, learn, check, drop, fsplit, fjoin, show, await, updating, now as at_once, done}
 use types.Tokens.{lft_new, lft_end}
 use denote.Laws.{Is, shows}

@@ -53,7 +53,8 @@ module _ (m : ℕ) (range : T (in_m m)) where
       label_of_inj h m g g'
       (word_at_inj h m _ _ p (in_m_least m range) (message_listed h g b) (message_listed h g' b') same)
 
-  pub unused_not_word_of : (h l g : ℕ) → 1 ≤ h → paths_in_use m ≤ label_path h m l → label_path h m l < length (paths m) →
+  pub unused_not_word_of : (h l g : ℕ) → 1 ≤ h → paths_in_use m ≤ label_path h m l →
+      label_path h m l < length (paths m) →
       g < messages h m → word_of h m g ≢ list_below (carriers m) (word_at h m l)
   unused_not_word_of h l g p unused ll b e =
       let same : (i : ℕ) → i < carriers m → word_at h m l i ≡ word_at h m (label_of h m g) i =

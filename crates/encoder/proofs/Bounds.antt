@@ -42,7 +42,8 @@ module _ (m : ℕ) (g : List (List ℕ)) (cells : Cells m g) (i : ℕ) (inside :
         (cells.cells (get_or p k 0) i (walk.steps k (omega arith)) inside)
         (cells.cells (get_or p (k + 1) 0) i (walk.steps (k + 1) (omega arith)) inside)
 
-    pub link_sum_le : (n : ℕ) → n ≤ m - 1 → sum_below n (λ k. cell g (get_or p k 0) i * cell g (get_or p (k + 1) 0) i) ≤ n * 1
+    pub link_sum_le : (n : ℕ) → n ≤ m - 1 →
+        sum_below n (λ k. cell g (get_or p k 0) i * cell g (get_or p (k + 1) 0) i) ≤ n * 1
     link_sum_le n h =
         sum_below_le n 1 (λ k. cell g (get_or p k 0) i * cell g (get_or p (k + 1) 0) i) (λ k l. link_le k (omega arith))
 

@@ -84,7 +84,8 @@ module _ (h m l : ℕ) (range : InRange h m) (used : l < labels h m) where
     first_is = step_digit 0 (omega (arith, range.m_least)) ∙ ap (digit m i) (sym (head_of_at path))
 
     module _ (c : List ℕ) (rows : (r : ℕ) → r ≤ m → get_or c r 0 ≡ row_coefficient h m l r) where
-      linear_is : linear_of (generator_rows m) c m i ≡ sum_below (m + 1) (λ r. row_coefficient h m l r * generator_at m r i)
+      linear_is : linear_of (generator_rows m) c m i
+          ≡ sum_below (m + 1) (λ r. row_coefficient h m l r * generator_at m r i)
       unfolding linear_of
       linear_is =
           sum_below_cong (m + 1) _ (λ r. row_coefficient h m l r * generator_at m r i)
@@ -140,7 +141,8 @@ lifted_at_one : (h m l i : ℕ) → lifted_at h m l (1 * half_turn h) i ≡ part
 unfolding lifted_at
 lifted_at_one h m l i = rw (one-mul (half_turn h)) (sym (partner_at_form h m l i))
 
-pub lifted_word : (h m g : ℕ) → list_below (carriers m) (lifted_at h m (label_of h m g) (0 * half_turn h)) ≡ word_of h m g
+pub lifted_word : (h m g : ℕ) →
+    list_below (carriers m) (lifted_at h m (label_of h m g) (0 * half_turn h)) ≡ word_of h m g
 unfolding word_of
 lifted_word h m g = list_below_cong (carriers m) _ _ (λ i _. lifted_at_zero h m (label_of h m g) i)
 

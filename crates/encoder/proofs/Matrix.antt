@@ -20,7 +20,8 @@ generator_at_digit m zero i h = absurd (not-suc-le-zero h)
 generator_at_digit m (suc r) i h = refl
 
 pub generator_row : (m r n : ℕ) → 1 ≤ r → list_below n (λ i. digit m i r) ≡ list_below n (generator_at m r)
-generator_row m r n h = list_below_cong n (λ i. digit m i r) (generator_at m r) (λ i _. sym (generator_at_digit m r i h))
+generator_row m r n h =
+    list_below_cong n (λ i. digit m i r) (generator_at m r) (λ i _. sym (generator_at_digit m r i h))
 
 pub generator_at_le : (m r i : ℕ) → generator_at m r i ≤ 1
 unfolding generator_at

@@ -4,10 +4,10 @@
 --                                places
 --           cell g r i           row r of the array g at place i
 --           linear_of, links_of  the sum over the rows, and over the links, at place i
---           symbol_of             both, with s times the row of the first step, modulo q
+--           symbol_of            both, with s times the row of the first step, modulo q
 --           lifted_at h m l s i  the formula plus s x_p(1), modulo 2^h: the word for s = 0, the partner for s = 2^(h-1)
 --           Split h m l t        the parts t of label l
---           Cells m g, Small m c, Walk m p    bounds on the arrays, so that no sum wraps and no index lies outside
+--           Cells m g, Small m c, Walk m p  bounds on the arrays, so that no sum wraps and no index lies outside
 --           Bounded m q s g p c  all three, and bounds on q and s
 -- Assumes nothing: these are definitions.
 use Rattle.std.specs.Prelude.{ℕ, suc, ◌+◌, ◌-◌, ◌*◌, ◌/◌, ◌%◌, ◌≤◌, ◌<◌, ◌≡◌, List, [], get_or}

@@ -1,7 +1,7 @@
 -- What encode and partner promise: 01 "What a logger may send", "The partner and the pair check", "When the receiver
 -- says no".
 -- Defines:  written_told r   what an answer says, in 01's terms
---           Sent h m g word before r after    the promise: the answer, and the slice that held `before`
+--           Sent h m g word before r after  the promise: the answer, and the slice that held `before`
 -- Laws: proofs/SentLaws.antt (only one outcome satisfies it).  Assumes nothing: these are definitions.
 use Rattle.std.specs.Prelude.{ℕ, ◌≡◌, List, length}
 use Rattle.rules.specs.Outcome.{Outcome, allowed, leaves}

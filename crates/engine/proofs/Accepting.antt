@@ -61,7 +61,11 @@ module _ (h m : ℕ) (g : List ℕ) where
       at : Dec (i < length g) → get_or g i 0 * carriers m ≤ most_total
       at (yes l) =
           let a : get_or g i 0 ≤ most_gain = leb-true _ most_gain (all_below_at (length g) _ p.small i l) in
-          omega (arith, mul-le-mul {n₁ = get_or g i 0} {m₁ = carriers m} {n₂ = most_gain} {m₂ = carriers greatest_m} a n)
+          omega (
+            arith,
+            mul-le-mul {n₁ = get_or g i 0} {m₁ = carriers m} {n₂ = most_gain} {m₂ = carriers greatest_m} a
+                n,
+          )
       at (no l) =
           let b : length g ≤ i = omega arith in
           rw (get_or-eq_default g 0 b) (omega arith)

@@ -52,5 +52,6 @@ module _ (q w : ℕ) (xs : List ℕ) (c : ℕ) where
   blocks_next first label st₀ st r lc e p f =
       let n : c * (w * q) + w * q ≡ (c + 1) * (w * q) = omega arith in
       let g : ℕ → ℕ = by_label q (w * q) (climbed q 1 w xs) in
-      subst (λ (k : ℕ). r ≡ lead_from first g k st₀) n (lead_from_stretch first g (c * (w * q)) (w * q) label block_at st₀
+      subst (λ (k : ℕ). r ≡ lead_from first g k st₀) n
+      (lead_from_stretch first g (c * (w * q)) (w * q) label block_at st₀
       st r e p (λ j l. by_label_block j lc l) f)

@@ -105,7 +105,8 @@ module _ (z : Sizes) (l : ℕ) (g w xs ys : List ℕ) (p : OnePath z l g w xs ys
           at : Dec (i < q * carriers m) → get_or (gains_with q (carriers m) v g) i 0 * carriers m ≤ most_total
           at (yes b) = rw (gains_with_at_lem q (carriers m) v g i b) (p.small _)
           at (no n) =
-              let b : length (gains_with q (carriers m) v g) ≤ i = omega (arith, length_gains_with q (carriers m) v g) in
+              let b : length (gains_with q (carriers m) v g) ≤ i =
+              omega (arith, length_gains_with q (carriers m) v g) in
               rw (get_or-eq_default (gains_with q (carriers m) v g) 0 b) (omega arith)
 
       first_runs : Runs q half 1 (table_in q half 1 zs)

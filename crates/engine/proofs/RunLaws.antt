@@ -67,7 +67,8 @@ further_step t c half n b r e p =
     p ∙ rw e (mod-add-mod (t + c * half) n half) ∙ ap (λ (x : ℕ). x % n) i
 
 -- the gain of symbol s at place i, as many symbols further on as the word's symbol says
-pub gains_with_at_gain : (q n : ℕ) (w g : List ℕ) (s i o x e : ℕ) → i < n → o ≡ s * n → x ≡ get_or w i 0 → e ≡ (s + x) % q →
+pub gains_with_at_gain : (q n : ℕ) (w g : List ℕ) (s i o x e : ℕ) → i < n → o ≡ s * n → x ≡ get_or w i 0 →
+    e ≡ (s + x) % q →
     get_or g (e * n + i) 0 ≡ gains_with_at q n w g (o + i)
 gains_with_at_gain q n w g s i o x e l p f k = rw (k, f, p) (sym (gains_with_at_run q n w g s i l))
 

@@ -22,4 +22,5 @@ unfolding word_of
 sent_own h m l g before after r e b n k s =
     let a = send_allowed h m (length before) g
     (record { shape = e; long = n; message = rw k (message_of_lt h m l b) }) in
-    sent_word s a ∙ ap (λ (x : ℕ). list_below (carriers m) (word_at h m x)) (ap (label_of h m) k ∙ label_of_message_of h m l)
+    sent_word s a ∙ ap (λ (x : ℕ). list_below (carriers m) (word_at h m x))
+    (ap (label_of h m) k ∙ label_of_message_of h m l)

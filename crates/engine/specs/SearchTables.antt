@@ -4,13 +4,13 @@
 --           Runs q half w xs      xs may be read by a stage: 2 q half runs of w numbers, each so small that the stages
 --                                 that follow stay within most_total
 --           WordFits q w g        gains g, in q runs as long as the word w, may be taken with w put in
---           Climbing d q half w l xs ys    d stages and the last may follow from a table at the front of the area xs,
+--           Climbing d q half w l xs ys  d stages and the last may follow from a table at the front of the area xs,
 --                                 and go to and fro between xs and ys; the labels are counted from l
 --           table_in q half w xs  the table at the front of the area xs
 --           Sized z               z holds the numbers of a shape in range
 --           AllPaths z g w xs ys  all paths may be searched with the gains g, by way of the areas w for a word, and xs
 --                                 and ys for tables of two or four phases
---           OnePath z l g w xs ys    the labels of the path whose first label is l may be searched so
+--           OnePath z l g w xs ys  the labels of the path whose first label is l may be searched so
 -- Laws: proofs/RunLaws.antt, Climbing.antt, PathLaws.antt, AllPaths.antt.  Assumes nothing: these are definitions.
 use Rattle.std.specs.Prelude.{ℕ, suc, ◌+◌, ◌-◌, ◌*◌, ◌^◌, ◌≤◌, ◌<◌, ◌≡◌, true, List, length, get_or, take}
 use Rattle.rules.specs.Shape.{greatest_m, in_shape, phases, carriers, paths_in_use}

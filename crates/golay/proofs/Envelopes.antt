@@ -88,7 +88,8 @@ module _ (r m : ℕ) (e f : ℕ → ℕ) (one : 1 ≤ r) (ine : (i : ℕ) → i 
       ∙ sym (sum_below_cong (carriers m - u) _ _ (λ i b. hits_between_back u i (k + half_turn r) b))
 
   square_counts_half :
-      square_count r (carriers m) e k + square_count r (carriers m) f k + pair_count r (carriers m) e f 0 (k + half_turn r)
+      square_count r (carriers m) e k + square_count r (carriers m) f k
+      + pair_count r (carriers m) e f 0 (k + half_turn r)
       ≡ pair_count r (carriers m) e f 0 k
       + (square_count r (carriers m) e (k + half_turn r) + square_count r (carriers m) f (k + half_turn r))
   square_counts_half =

@@ -37,7 +37,8 @@ unfolding word_at
 partner_across h m l u i one n =
     let f : ℕ = head_of (path_at m (label_path h m l)) in
     rw (partner_at_form h m l i, partner_at_form h m l (i + u))
-    (minus_half_once (phases h) (half_turn h) (form_at h m l i) (form_at h m l (i + u)) (digit m i f) (digit m (i + u) f)
+    (minus_half_once (phases h) (half_turn h) (form_at h m l i) (form_at h m l (i + u)) (digit m i f)
+    (digit m (i + u) f)
     (pow_pos h) (phases_half h one) (omega (arith, digit_lt m i f, digit_lt m (i + u) f)))
 
 module _ (h m l f : ℕ) (p : List ℕ) (one : 1 ≤ h) (is : path_at m (label_path h m l) ≡ f ∷ p) (path : IsPath m (f ∷ p))

@@ -13,7 +13,8 @@ use Rattle.rules.proofs.RefusalLaws.{pair_allowed}
 use Rattle.pair.specs.Words.{Words}
 
 module _ (h m : ℕ) (a b : List ℕ) where
-  pub pair_given : Symbols h m a → Symbols h m b → gives (golay_pair h m (symbol_at a) (symbol_at b)) ≡ pair_outcome h m a b
+  pub pair_given : Symbols h m a → Symbols h m b →
+      gives (golay_pair h m (symbol_at a) (symbol_at b)) ≡ pair_outcome h m a b
   unfolding pair_outcome
   pair_given p q = rw (pair_allowed h m a b p q)
 

@@ -55,7 +55,8 @@ orders_sorted (suc n) xs s =
 pub paths_sorted : (m : ℕ) → Sorted Before (paths m)
 unfolding paths
 paths_sorted m =
-    sorted_keep Before (λ p. ltb (head_of p) (last_of p)) (orders m (up_to m)) (orders_sorted m (up_to m) (up_to_sorted m))
+    sorted_keep Before (λ p. ltb (head_of p) (last_of p)) (orders m (up_to m))
+    (orders_sorted m (up_to m) (up_to_sorted m))
 
 pub paths_increasing : (m i j : ℕ) → i < j → j < length (paths m) → Before (path_at m i) (path_at m j)
 unfolding path_at

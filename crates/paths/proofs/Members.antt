@@ -62,5 +62,6 @@ is_path_in m p r i h = is_path_within m p r (get_or p i 0) (get_or_mem p i 0 h)
 pub is_path_unique : (m : ℕ) (p : List ℕ) → IsPath m p → Distinct p
 is_path_unique m p r k = omega (arith, (is_path_is_order m p r).same k, up_to_distinct m k)
 
-pub is_path_distinct : (m : ℕ) (p : List ℕ) → IsPath m p → (i j : ℕ) → i < j → j < length p → get_or p i 0 ≢ get_or p j 0
+pub is_path_distinct : (m : ℕ) (p : List ℕ) → IsPath m p → (i j : ℕ) → i < j → j < length p →
+    get_or p i 0 ≢ get_or p j 0
 is_path_distinct m p r i j l h = distinct_at p i j (is_path_unique m p r) l h

@@ -66,7 +66,8 @@ is_order_orders (suc n) xs (x ∷ q) l u r =
     let o : times x xs ≡ 1 = distinct_once x xs u i in
     let c : IsOrder (without x xs) q = order_tail x xs q o r in
     let t = is_order_orders n (without x xs) q (long_without n x xs o l) (distinct_without x xs u) c in
-    mem_flat_map (λ y. map (λ s. y ∷ s) (orders n (without y xs))) x (x ∷ q) xs i (mathlib.Core.List.Memᴰ.map (λ s. x ∷ s) t)
+    mem_flat_map (λ y. map (λ s. y ∷ s) (orders n (without y xs))) x (x ∷ q) xs i
+    (mathlib.Core.List.Memᴰ.map (λ s. x ∷ s) t)
 
 order_put : (x : ℕ) (xs p : List ℕ) → times x p ≡ 1 → IsOrder xs (without x p) → IsOrder (x ∷ xs) p
 unfolding times

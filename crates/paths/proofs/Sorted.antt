@@ -20,7 +20,8 @@ pub data Sorted {A : Type 0} (R : A → A → Type 0) : List A → Type 0 where
   first : {x : A} {xs : List A} → ((y : A) → Memᴰ y xs → R x y) → Sorted R xs → Sorted R (x ∷ xs)
 
 module _ {A : Type 0} (R : A → A → Type 0) where
-  pub sorted_at : (xs : List A) (d : A) (i j : ℕ) → Sorted R xs → i < j → j < length xs → R (get_or xs i d) (get_or xs j d)
+  pub sorted_at : (xs : List A) (d : A) (i j : ℕ) → Sorted R xs → i < j → j < length xs →
+      R (get_or xs i d) (get_or xs j d)
   sorted_at [] d i j s l h = absurd (not-suc-le-zero h)
   sorted_at (x ∷ xs) d i zero s l h = absurd (not-suc-le-zero l)
   sorted_at (x ∷ xs) d zero (suc j) (first a s) l h = a (get_or xs j d) (get_or_mem xs j d (le_of_suc-le-suc h))

@@ -127,6 +127,10 @@ pub distinct_at : (p : List ℕ) (i j : ℕ) → Distinct p → i < j → j < le
 distinct_at [] i j u l h e = not-suc-le-zero h
 distinct_at (x ∷ p) i zero u l h e = not-suc-le-zero l
 distinct_at (x ∷ p) zero (suc j) u l h e =
-    omega (arith, distinct_head x p u, rw (← e) at (times_of_mem (get_or p j 0) p (get_or_mem p j 0 (le_of_suc-le-suc h))))
+    omega (
+      arith,
+      distinct_head x p u,
+      rw (← e) at (times_of_mem (get_or p j 0) p (get_or_mem p j 0 (le_of_suc-le-suc h))),
+    )
 distinct_at (x ∷ p) (suc i) (suc j) u l h e =
     distinct_at p i j (distinct_tail x p u) (le_of_suc-le-suc l) (le_of_suc-le-suc h) e

@@ -37,7 +37,8 @@ module _ {A : Type 0} where
   filled_turn i f d xs v h e p = rw (e, p) (filled_step i f d h)
 
   -- the end of such a loop: i has reached the length
-  pub filled_end : (n i : ℕ) (f : ℕ → A) (d xs : List A) → length d ≡ n → i ≡ n → xs ≡ filled i f d → xs ≡ list_below n f
+  pub filled_end : (n i : ℕ) (f : ℕ → A) (d xs : List A) → length d ≡ n → i ≡ n → xs ≡ filled i f d →
+      xs ≡ list_below n f
   filled_end n i f d xs l q e =
       e ∙ ap (λ (k : ℕ). filled k f d) (q ∙ sym l) ∙ filled_all f d ∙ ap (λ (k : ℕ). list_below k f) l
 

@@ -1,5 +1,5 @@
--- Sizes of whole numbers: `nat_abs z` is z without its sign. In order: of a negation; of a sum of two; of a sum below n.
--- Not here: `mag`, which is one less for a negative number (SumsSigned).  Assumes nothing.
+-- Sizes of whole numbers: `nat_abs z` is z without its sign. In order: of a negation; of a sum of two; of a sum below
+-- n. Not here: `mag`, which is one less for a negative number (SumsSigned).  Assumes nothing.
 use Prim.Native.Nat.{ℕ, zero, suc, ◌+◌, ◌-◌, ◌*◌, ◌≤◌, ◌<◌, zero-le, suc-le-suc}
 use native.Mathlib.Nat.{suc-mul, le_refl}
 use native.Mathlib.Omega.{arith}

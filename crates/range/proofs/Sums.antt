@@ -63,7 +63,8 @@ unfolding sum_below
 sum_below_sum zero f g = refl
 sum_below_sum (suc n) f g = omega (arith, sum_below_sum n (λ i. f (suc i)) (λ i. g (suc i)))
 
-pub sum_below_pairs : (n c : ℕ) (f g : ℕ → ℕ) → ((i : ℕ) → i < n → f i + g i ≡ c) → sum_below n f + sum_below n g ≡ n * c
+pub sum_below_pairs : (n c : ℕ) (f g : ℕ → ℕ) → ((i : ℕ) → i < n → f i + g i ≡ c) →
+    sum_below n f + sum_below n g ≡ n * c
 sum_below_pairs n c f g e = sum_below_sum n f g ∙ sum_below_cong n (λ i. f i + g i) (λ _. c) e ∙ sum_below_const n c
 
 pub sum_below_mul : (n c : ℕ) (f : ℕ → ℕ) → sum_below n (λ i. c * f i) ≡ c * sum_below n f

@@ -2,7 +2,7 @@
 -- Defines:  sum_below n f     f 0 + .. + f (n - 1)
 --           one_if b          1 for a test that is passed, else 0
 --           count_below n f   how many i below n pass the test f
---           all_below n f      whether every i below n passes f
+--           all_below n f     whether every i below n passes f
 --           first_below n f   the first i below n that passes f, if there is one (zero_or is its step)
 --           list_below n f    f 0, .., f (n - 1)
 --           filled n f d      d filled from the front: f 0, .., f (n - 1), and from n on what d holds there

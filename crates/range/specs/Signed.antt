@@ -1,6 +1,6 @@
 -- Whole numbers: sums below n, negation by a test, and the entries of a list.
 -- Defines:  sumℤ n f         f 0 + .. + f (n - 1)
---           negated_if b z    z, negated where b is true
+--           negated_if b z   z, negated where b is true
 --           entry a i        entry i of a list, and 0 behind its end
 -- Laws: proofs/SumsSigned.antt.  Assumes nothing: these are definitions.
 use Rattle.std.specs.Prelude.{ℕ, zero, suc, Bool, true, false, List, ℤ, pos, neg_ℤ, ◌+ℤ◌, get_or}

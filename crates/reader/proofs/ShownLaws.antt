@@ -45,7 +45,8 @@ pub shown_lt : (h m : ℕ) (w : List ℕ) (k : ℕ) → shown h m w k < phases h
 unfolding shown
 shown_lt h m w k = minus_lt (phases h) (symbol_at w (2 ^ (m - k))) (symbol_at w 0) (pow_pos h)
 
-shown_up_to_is : (h m : ℕ) (w : List ℕ) (k c0 : ℕ) → shown_up_to h m w k * phases h + c0 ≡ number_of h k 0 (shown h m w) c0
+shown_up_to_is : (h m : ℕ) (w : List ℕ) (k c0 : ℕ) →
+    shown_up_to h m w k * phases h + c0 ≡ number_of h k 0 (shown h m w) c0
 unfolding shown_up_to number_of
 shown_up_to_is h m w zero c0 = refl
 shown_up_to_is h m w (suc k) c0 = ap (λ (x : ℕ). x * phases h + c0) (shown_up_to_is h m w k (shown h m w (suc k)))
@@ -62,7 +63,8 @@ shown_up_to_lt h m w zero = rw pow-zero (le_refl 1)
 shown_up_to_lt h m w (suc k) = rw (pow-suc (phases h) k) (digits_lt (shown_up_to_lt h m w k) (shown_lt h m w (suc k)))
 
 -- the number that is read stays far below the width of the code's numbers
-pub shown_up_to_small : (h m : ℕ) (w : List ℕ) (k : ℕ) → InRange h m → k ≤ m → shown_up_to h m w k < 2 ^ most_coefficient_bits
+pub shown_up_to_small : (h m : ℕ) (w : List ℕ) (k : ℕ) → InRange h m → k ≤ m →
+    shown_up_to h m w k < 2 ^ most_coefficient_bits
 shown_up_to_small h m w k range b =
     lt_of_lt_of_le (shown_up_to_lt h m w k)
     (rw (phases_pow h k) (pow_mono {i = h * k} {j = most_coefficient_bits}
@@ -78,7 +80,8 @@ pub label_with_zero : (h m : ℕ) (w : List ℕ) → low_of h m w ≡ label_with
 unfolding label_with
 label_with_zero h m w = omega (arith, zero-mul (phases h ^ (m + 1)))
 
-pub label_with_next : (h m : ℕ) (w : List ℕ) (n : ℕ) → label_with h m w n + phases h ^ (m + 1) ≡ label_with h m w (n + 1)
+pub label_with_next : (h m : ℕ) (w : List ℕ) (n : ℕ) →
+    label_with h m w n + phases h ^ (m + 1) ≡ label_with h m w (n + 1)
 unfolding label_with
 label_with_next h m w n = rw (add-mul n 1 (phases h ^ (m + 1)), one-mul (phases h ^ (m + 1))) (omega arith)
 
@@ -118,7 +121,8 @@ module _ (h m : ℕ) (w : List ℕ) (word : Symbols h m w) where
     shows_label : label_with h m w (label_path h m l) ≡ l
     shows_label =
         label_with_is h m w (label_path h m l)
-        ∙ number_of_cong h m (label_path h m l) (shown h m w) (coefficient h m l) (symbol_at w 0) (constant h l) shown_is
+        ∙ number_of_cong h m (label_path h m l) (shown h m w) (coefficient h m l) (symbol_at w 0)
+        (constant h l) shown_is
         constant_is
         ∙ number_of_back h m l
 

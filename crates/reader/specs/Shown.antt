@@ -1,9 +1,9 @@
 -- What the symbols show of a label, if they are its word: c stands at place 0, and c_k is what place 2^(m-k) adds to
 -- it.
--- Defines:  shown h m w k       the coefficient c_k that w shows
+-- Defines:  shown h m w k        the coefficient c_k that w shows
 --           shown_up_to h m w k  c_1, .., c_k as one number in base 2^h
 --           low_of h m w         c_1, .., c_m, c as one number: the label number with path number 0
---           label_with h m w n  the label number with path number n
+--           label_with h m w n   the label number with path number n
 -- Laws: proofs/ShownLaws.antt.  Assumes nothing: these are definitions.
 use Rattle.std.specs.Prelude.{ℕ, zero, suc, ◌+◌, ◌-◌, ◌*◌, ◌^◌, List}
 use Rattle.rules.specs.Shape.{phases}

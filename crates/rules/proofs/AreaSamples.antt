@@ -84,6 +84,7 @@ part_refused : (part_of 3 five_first five_second ≡ []) × (part_length 3 five_
 unfolding part_of part_length part_in_first transform_refusal
 part_refused = (refl, refl, refl)
 
-areas_refused : (first_after 3 five_first five_second ≡ five_first) × (second_after 3 five_first five_second ≡ five_second)
+areas_refused : (first_after 3 five_first five_second ≡ five_first)
+    × (second_after 3 five_first five_second ≡ five_second)
 unfolding first_after second_after transform_refusal
 areas_refused = (refl, refl)

@@ -58,8 +58,8 @@ soft_right = let value = correlation 1 2 four_least in (
 
 hard_right : Right (hard 1 2 (1 ∷ 1 ∷ 1 ∷ 1 ∷ []) (record { message = 1; value = 1; tied = true }))
 unfolding
-    hard_refusal bad_symbol first_below all_below count_below hamming distance word_at form_at links digit path_at paths keep
-    without orders up_to list_below flat_map label_path coefficient constant label_of path_bits sum_below
+    hard_refusal bad_symbol first_below all_below count_below hamming distance word_at form_at links digit path_at paths
+    keep without orders up_to list_below flat_map label_path coefficient constant label_of path_bits sum_below
 hard_right = let value = distance_to 1 2 (1 ∷ 1 ∷ 1 ∷ 1 ∷ []) in record {
   taken = refl;
   right = record {
@@ -82,9 +82,10 @@ a & b = (a, b)
 
 pub known : AllRight starred
 unfolding
-    ◌&◌ starred word_of partner_of word_at partner_at form_at links digit path_at paths keep without orders up_to list_below
-    flat_map label_path coefficient constant label_parts label_of path_bits sum_below count_below all_below first_below minus
-    phase_count pair_count golay_pair bad_symbol message_with send_refusal pair_refusal pair_outcome word_refusal read_outcome
+    ◌&◌ starred word_of partner_of word_at partner_at form_at links digit path_at paths keep without orders up_to
+    list_below flat_map label_path coefficient constant label_parts label_of path_bits sum_below count_below all_below
+    first_below minus phase_count pair_count golay_pair bad_symbol message_with send_refusal pair_refusal pair_outcome
+    word_refusal read_outcome
 known =
     (refl, refl) & (refl, refl) & refl
     & (refl, refl) & (refl, refl) & (refl, refl)

@@ -3,7 +3,7 @@
 -- Defines:  in_first m            whether the last stage writes the first area: for even m
 --           first_after m a b     what the first area holds afterwards, and
 --           second_after m a b    the second: one the spectrum, the other what stood after stage m - 1
---           part_of m a b          the part handed back: the spectrum, or nothing where the transform is refused
+--           part_of m a b         the part handed back: the spectrum, or nothing where the transform is refused
 --           part_length m a b     how long it is
 --           part_in_first m a b   whether it stands at the front of the first area: for even m, and where refused
 -- Laws: transform, proofs/AreasAfter.antt; samples: proofs/AreaSamples.antt.  Assumes nothing: these are definitions.

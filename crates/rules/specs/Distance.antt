@@ -1,8 +1,8 @@
 -- Distances between two words of n symbols: 01 "What the receiver hears".
--- Defines:  hamming n a b       the number of places at which a and b differ
---           lee_of h d          the smaller of d and 2^h - d
---           lee h n a b         the sum over places of lee_of of the difference modulo 2^h
---           distance h n a b    differing places for h = 1, else Lee distance
+-- Defines:  hamming n a b        the number of places at which a and b differ
+--           lee_of h d           the smaller of d and 2^h - d
+--           lee h n a b          the sum over places of lee_of of the difference modulo 2^h
+--           distance h n a b     differing places for h = 1, else Lee distance
 --           distance_to h m w l  the distance of symbols w from label l's word
 -- Laws: crates signals (as distances) and distances (between words).  Assumes nothing: these are definitions.
 use Rattle.std.specs.Prelude.{ℕ, ◌-◌, min, cond, not, List, eqb}

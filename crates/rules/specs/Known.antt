@@ -3,7 +3,7 @@
 --           Right k     what it says
 --           starred     the list, in 01's order
 --           AllRight    the one claim about the list, proved in proofs/KnownWords.antt
---           Refused1, four_least, reaching    what some cases say: every call with a shape refuses 1; four times
+--           Refused1, four_least, reaching  what some cases say: every call with a shape refuses 1; four times
 --                       -32,768; the messages that reach a correlation
 -- Assumes nothing: these are definitions.
 use Rattle.std.specs.Prelude.{ℕ, ◌≤◌, ◌≡◌, true, not, ◌&&◌, List, [], ◌∷◌, eqb, ℤ, pos, negsuc, length, replicate}

@@ -3,7 +3,7 @@
 --                                   the refusal carries
 --           allowed                 nothing is refused
 --           leaves o old new        new where o gives, old where o refuses
---           and_then r o             o where r refuses nothing, else r's refusal
+--           and_then r o            o where r refuses nothing, else r's refusal
 --           refuse k test o         refusal k where the test holds, else o
 --           refuse_at k found more o refusal k with the place found, and more behind it, else o
 --           Answered r Right a      a is answered: r refuses nothing, and a is right

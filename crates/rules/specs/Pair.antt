@@ -1,13 +1,13 @@
 -- The pair check: 01 "The partner and the pair check".
 -- Words are taken as functions of the place.
--- Defines:  minus q a b            a - b modulo q, for a and b below q
---           phase_count h n a u k  how many places i with i + u < n have symbol i minus symbol i + u equal to k
---                                  modulo 2^h
+-- Defines:  minus q a b             a - b modulo q, for a and b below q
+--           phase_count h n a u k   how many places i with i + u < n have symbol i minus symbol i + u equal to k
+--                                   modulo 2^h
 --           pair_count h n a b u k  the same, over both words together
---           GolayPair h m a b      for each shift u from 1 to N - 1 and each phase k the count for k equals the count
---                                  for k + 2^(h-1)
+--           GolayPair h m a b       for each shift u from 1 to N - 1 and each phase k the count for k equals the count
+--                                   for k + 2^(h-1)
 --           phases_agree h n a b u  whether at shift u the count for each phase equals the count half a turn on
---           golay_pair h m a b     the test of a pair: they agree at every shift
+--           golay_pair h m a b      the test of a pair: they agree at every shift
 -- Laws: proofs/Differences.antt (minus), crate pair (golay_pair_iff: the test is the claim), crate golay.
 -- Assumes nothing: these are definitions.
 use Rattle.std.specs.Prelude.{ℕ, suc, ◌+◌, ◌-◌, ◌%◌, ◌≤◌, ◌<◌, ◌≡◌, Bool, eqb}

@@ -1,14 +1,14 @@
 -- Paths: 01 "What a logger may send".
--- Defines:  head_of, last_of   the first and the last of a list
---           times k xs       how often k stands in a list
---           IsPath m p       p is an order of the numbers 1..m whose first is less than its last
---           Before xs ys     xs comes before ys in dictionary order, of lists of one length (also the order of labels)
---           keep f xs        those of a list that pass a test
---           without x xs     a list without x
---           orders n xs      the orders of n numbers
+-- Defines:  head_of, last_of  the first and the last of a list
+--           times k xs        how often k stands in a list
+--           IsPath m p        p is an order of the numbers 1..m whose first is less than its last
+--           Before xs ys      xs comes before ys in dictionary order, of lists of one length (also the order of labels)
+--           keep f xs         those of a list that pass a test
+--           without x xs      a list without x
+--           orders n xs       the orders of n numbers
 --           up_to m           1, .., m
---           paths m          every path of m, in dictionary order
---           path_at m n      the path with number n, counted from 0
+--           paths m           every path of m, in dictionary order
+--           path_at m n       the path with number n, counted from 0
 -- That `paths` lists exactly the lists of `IsPath`, in that order: crate paths. That the order has a direction:
 -- proofs/OrderLaws.antt.
 -- Assumes nothing: these are definitions.

@@ -1,14 +1,15 @@
 -- The shape of a word: 01 "What a logger may send".
--- Defines:  greatest_h, greatest_m   the ends of the ranges of h and m; they stand here alone
+-- Defines:  greatest_h, greatest_m    the ends of the ranges of h and m; they stand here alone
 --           path_widths, path_bits m  01's table of w, which stands here alone; w, the bits of a path number
 --           in_h h, in_m m, in_shape  whether h is in 1..greatest_h, m in 2..greatest_m, both
---           phases h, half_turn h    2^h phases, and half as many, 2^(h-1)
---           carriers m               N = 2^m
---           paths_in_use m           2^w
---           message_bits h m         w + h (m + 1)
---           messages h m             how many message numbers there are: 2^(w + h (m + 1))
---           most_path_bits, most_coefficient_bits, most_bits  what the greatest shape has: w, the bits of the coefficients
---                                    and the constant, the bits of a message number
+--           phases h, half_turn h     2^h phases, and half as many, 2^(h-1)
+--           carriers m                N = 2^m
+--           paths_in_use m            2^w
+--           message_bits h m          w + h (m + 1)
+--           messages h m              how many message numbers there are: 2^(w + h (m + 1))
+--           most_path_bits            of the greatest shape: w
+--           most_coefficient_bits     the bits of its coefficients and the constant
+--           most_bits                 the bits of its message numbers
 -- Assumes nothing: these are definitions.
 use Rattle.std.specs.Prelude.{ℕ, ◌+◌, ◌-◌, ◌*◌, ◌^◌, Bool, ◌&&◌, List, [], ◌∷◌, leb, get_or}
 

@@ -1,10 +1,10 @@
 -- Words and their partners: 001 Corollary 4 and Theorem 3; 01 "What a logger may send", "The partner and the pair
 -- check".
--- Defines:  links x p          x_p(1) x_p(2) + .. + x_p(m-1) x_p(m), where x k is the digit x_k
---           form_at h m l i    01's formula for label l at place i, not yet reduced
+-- Defines:  links x p           x_p(1) x_p(2) + .. + x_p(m-1) x_p(m), where x k is the digit x_k
+--           form_at h m l i     01's formula for label l at place i, not yet reduced
 --           word_at h m l i     the symbol at place i of label l's word
 --           partner_at h m l i  the symbol at place i of its partner
---           word_of h m g, partner_of h m g   the N symbols for message number g
+--           word_of h m g, partner_of h m g  the N symbols for message number g
 --           symbol_at w i       the symbol at place i of a list of symbols
 -- Laws: crates words, distances and golay.  Assumes nothing: these are definitions.
 use Rattle.std.specs.Prelude.{ℕ, suc, ◌+◌, ◌*◌, ◌%◌, List, [], ◌∷◌, get_or}

@@ -22,7 +22,8 @@ module _ {A : Type 0} {n : ℕ} where
   kind_of_zero_iff (refused s) e =
       (λ z. absurd (omega (arith, s.nonzero)), λ p. absurd (gives_not_refuses (sym p.1)))
 
-  pub carried_or_kept : {o : Outcome A} → Listed n o → placed (kind_of o) ≡ false → (i old : ℕ) → carried_or o i old ≡ old
+  pub carried_or_kept : {o : Outcome A} → Listed n o → placed (kind_of o) ≡ false → (i old : ℕ) →
+      carried_or o i old ≡ old
   carried_or_kept given e i old = refl
   carried_or_kept (refused {v = v} r) e i old =
       let none : length v ≡ 0 = r.count ∙ ap (λ (t : Bool). cond t n 0) e in

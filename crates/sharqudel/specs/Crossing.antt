@@ -1,5 +1,5 @@
 -- How an outcome leaves a call that programs in other languages make: as a number, and in cells.
--- Defines:  kind_of o             the refusal's number in 01's table, and 0 where nothing is refused
+-- Defines:  kind_of o            the refusal's number in 01's table, and 0 where nothing is refused
 --           given_or o f old     a cell for what is given: f of it, and where o refuses what the cell held before
 --           carried_or o i old   a cell for number i that a refusal carries (0 its first bad place, 1 which word): that
 --                                number, and where there is none what the cell held before

@@ -1,13 +1,13 @@
 -- What comes out of each exported call: its number r, and what every cell and every slice that it may write holds
 -- afterwards, in terms of the outcome that 01 gives the call. A name with ₀ is what a cell held before.
--- Defines:  SentOut h m g word d r d'          encode and partner: the slice held d, and then d'
---           CheckedOut o r b₀ b p₀ p w₀ w      the pair check: whether a pair, the place, which word
---           ReadOut o r g₀ g p₀ p              word reading: the message, the place
---           SoftOut h m ys r g₀ g v₀ v t₀ t    soft decoding: the message, its correlation, tied
---           HardOut h m w r g₀ g d₀ d t₀ t p₀ p    hard decoding: the message, its distance, tied, the place
---           JudgedOut o r p₀ p                 the question about the transform: the place
---           TransformedOut m a b r n₀ n p₀ p a' b'    the transform: the number of the area that holds the spectrum,
---                                              the place, and the areas, which held a and b
+-- Defines:  SentOut h m g word d r d'               encode and partner: the slice held d, and then d'
+--           CheckedOut o r b₀ b p₀ p w₀ w           the pair check: whether a pair, the place, which word
+--           ReadOut o r g₀ g p₀ p                   word reading: the message, the place
+--           SoftOut h m ys r g₀ g v₀ v t₀ t         soft decoding: the message, its correlation, tied
+--           HardOut h m w r g₀ g d₀ d t₀ t p₀ p     hard decoding: the message, its distance, tied, the place
+--           JudgedOut o r p₀ p                      the question about the transform: the place
+--           TransformedOut m a b r n₀ n p₀ p a' b'  the transform: the number of the area that holds the spectrum,
+--                                                   the place, and the areas, which held a and b
 -- Where o is a parameter it is the outcome that rules Refusal defines. The decoders' outcome is the one that satisfies
 -- rules Decoding. Laws: proofs/OutLaws.antt, Unique.antt (only one ending satisfies each).
 -- Assumes nothing: these are definitions.

@@ -97,7 +97,8 @@ module _ (m n : ℕ) (least : 2 ≤ m) (most : m ≤ greatest_m) (used : n < pat
   table_at =
       rw starts_at
       (rows_below_at (greatest_m - 1) numbers_from_2 in_use_from_2
-      (λ j. length_list_below (in_use_from_2 j) (λ k. packed 0 (path_at (j + 2) k))) (m - 2) n 0 (omega arith) (rw back used)
+      (λ j. length_list_below (in_use_from_2 j) (λ k. packed 0 (path_at (j + 2) k))) (m - 2) n 0 (omega arith)
+      (rw back used)
       ∙ list_below_at (in_use_from_2 (m - 2)) (λ k. packed 0 (path_at (m - 2 + 2) k)) n 0 (rw back used)
       ∙ ap (λ (k : ℕ). packed 0 (path_at k n)) back)
 
@@ -121,4 +122,5 @@ module _ (m n : ℕ) (least : 2 ≤ m) (most : m ≤ greatest_m) (used : n < pat
   unfolding unpacked path_row
   table_steps =
       rw (table_at, steps_of_used)
-      (filled_cong m (step_in m (packed 0 (path_at m n))) (λ k. get_or (path_at m n) k 0) (replicate greatest_m 0) step_at)
+      (filled_cong m (step_in m (packed 0 (path_at m n))) (λ k. get_or (path_at m n) k 0)
+      (replicate greatest_m 0) step_at)

@@ -1,7 +1,7 @@
 -- A path's steps as code holds them.
 -- Defines:  path_row m n    p(1), .., p(m) of path n, and 0 after the m-th, as many as the greatest m
 --           in_use m n      whether m is in its range and path n among those in use
---           steps_of m n     the row of a path in use, and zeros for any other numbers
+--           steps_of m n    the row of a path in use, and zeros for any other numbers
 --           step_in m x k   step k + 1 of the path of m with number x: its digit to base 8, the first step the highest
 --           unpacked m x    such a path's steps, and 0 after the m-th
 -- Laws: proofs/PathTable.antt.  Assumes nothing: these are definitions.

@@ -88,10 +88,12 @@ module _ (h m g : ℕ) (shape : in_shape h m ≡ true) (taken : g < messages h m
       let p : List ℕ = path_at m (label_path h m l) in
       let e : links (digit m i) p ≡ sum_below (m - 1) (λ k. digit m i (get_or p k 0) * digit m i (get_or p (suc k) 0)) =
       links_sum (digit m i) p
-      ∙ ap (λ (n : ℕ). sum_below (n - 1) (λ k. digit m i (get_or p k 0) * digit m i (get_or p (suc k) 0))) path_is.long in
+      ∙ ap (λ (n : ℕ). sum_below (n - 1) (λ k. digit m i (get_or p k 0) * digit m i (get_or p (suc k) 0)))
+      path_is.long in
       (path_is, word_of_at h m g i b ∙ rw e refl)
 
 pub partner_formula : (h m g i : ℕ) → i < carriers m → symbol_at (partner_of h m g) i
-    ≡ (symbol_at (word_of h m g) i + 2 ^ (h - 1) * digit m i (head_of (path_at m (label_path h m (label_of h m g))))) % 2 ^ h
+    ≡ (symbol_at (word_of h m g) i + 2 ^ (h - 1) * digit m i (head_of (path_at m (label_path h m (label_of h m g))))) %
+    2 ^ h
 unfolding partner_at
 partner_formula h m g i b = partner_of_at h m g i b ∙ rw (word_of_at h m g i b) refl

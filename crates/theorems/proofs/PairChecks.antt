@@ -52,7 +52,8 @@ module _ (h m g : ℕ) (shape : in_shape h m ≡ true) (taken : g < messages h m
   -- the two lists
   lists_pair : golay_pair h m (symbol_at (word_of h m g)) (symbol_at (partner_of h m g)) ≡ true
   lists_pair =
-      (golay_pair_iff h m _ _).1 (golay_pair_cong h m (word h m g) (partner h m g) _ _ (λ i l. sym (word_of_at h m g i l))
+      (golay_pair_iff h m _ _).1
+      (golay_pair_cong h m (word h m g) (partner h m g) _ _ (λ i l. sym (word_of_at h m g i l))
       (λ i l. sym (partner_of_at h m g i l)) word_partner)
 
   lists_yes : gives true ≡ pair_outcome h m (word_of h m g) (partner_of h m g)

@@ -77,7 +77,8 @@ module _ (h m : ℕ) (a b : List ℕ) where
   pub pair_row : Row (pair_outcome h m a b)
   unfolding pair_outcome pair_refusal
   pair_row =
-      let P : Outcome (Unit {0}) → Type 0 = λ r. Row (and_then r (gives (golay_pair h m (symbol_at a) (symbol_at b)))) in
+      let P : Outcome (Unit {0}) → Type 0 =
+      λ r. Row (and_then r (gives (golay_pair h m (symbol_at a) (symbol_at b)))) in
       refuse_cases P 1 (bad_shape h m) _ (λ s. pair_1 (not-true _ s)) (λ s.
       refuse_cases P 2 short _ (λ l. pair_2 (not-false _ s) (not_both l)) (λ l.
       let p = (both l).0 in

@@ -160,7 +160,8 @@ demand3 = record {
       hamming_apart h m (label_of h m g) (label_of h m k) r.h_least (range_in_m h m r) (label_of_lt h m g p)
       (label_of_lt h m k q) (λ e. n (label_of_inj h m g k e));
   lee_apart = λ h m g k shape two p q n.
-      lee_apart h m (label_of h m g) (label_of h m k) two (range_in_m h m (in_shape_range h m shape)) (label_of_lt h m g p)
+      lee_apart h m (label_of h m g) (label_of h m k) two (range_in_m h m (in_shape_range h m shape))
+      (label_of_lt h m g p)
       (label_of_lt h m k q) (λ e. n (label_of_inj h m g k e));
   damage_two = damage_two;
   damage_four = damage_four;

@@ -98,7 +98,8 @@ pub soft_back : (h m g a : ℕ) (d w : List ℕ) (t : Heard) → h ≤ 2 → 1 �
     heard_told t ≡ gives (record { message = g; value = pos (carriers m * a); tied = false })
 soft_back h m g a d w t two some s hears =
     let ys : List ℤ = clean h m a (word_of h m g) in
-    soft_outcome_unique h m ys (heard_told t) (gives (record { message = g; value = pos (carriers m * a); tied = false }))
+    soft_outcome_unique h m ys (heard_told t)
+    (gives (record { message = g; value = pos (carriers m * a); tied = false }))
     (rw (done_word s) at hears) (record {
       taken = soft_allowed h m ys
           (record { shape = done_shape s; few = two; long = length_clean h m a (word_of h m g) });

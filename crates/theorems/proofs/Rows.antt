@@ -50,7 +50,8 @@ module _ (h m n g : ℕ) where
   send_row =
       let Row = SendRow h m n g in
       refuse_cases Row 1 (bad_shape h m) _ (λ s. send_1 (not-true _ s)) (λ s.
-      refuse_cases Row 2 (bad_length n (carriers m)) _ (λ l. send_2 (not-false _ s) (eqb-false n _ (not-true _ l))) (λ l.
+      refuse_cases Row 2 (bad_length n (carriers m)) _ (λ l. send_2 (not-false _ s) (eqb-false n _ (not-true _ l)))
+      (λ l.
       refuse_cases Row 4 (bad_message h m g) _
       (λ b. send_4 (not-false _ s) (eqb-true n _ (not-false _ l)) (leb-true _ g b))
       (λ b. send_none (not-false _ s) (eqb-true n _ (not-false _ l)) (leb-false _ g b))))

@@ -4,7 +4,8 @@
 -- A claim about a call takes what the call ensures as its premise. `Symbols h m w` says that w is N symbols in range.
 -- Defines:  Demand2    the claims
 -- Proved in proofs/Proved.antt.  Assumes nothing: these are definitions.
-use Rattle.std.specs.Prelude.{ℕ, suc, ◌+◌, ◌-◌, ◌*◌, ◌/◌, ◌%◌, ◌^◌, ◌≤◌, ◌<◌, ◌≡◌, true, ◌≢◌, ◌↔◌, ℤ, pos, ◌+ℤ◌, length, get_or}
+use Rattle.std.specs.Prelude.{ℕ, suc, ◌+◌, ◌-◌, ◌*◌, ◌/◌, ◌%◌, ◌^◌, ◌≤◌, ◌<◌, ◌≡◌, true, ◌≢◌, ◌↔◌, ℤ, pos, ◌+ℤ◌, length}
+use Rattle.std.specs.Prelude.{get_or}
 use mathlib.Core.List.{List, [], Memᴰ}
 use Rattle.range.specs.Below.{sum_below, list_below, ◌! }
 use Rattle.rules.specs.Shape.{in_m, in_shape, phases, half_turn, carriers, paths_in_use, messages}
@@ -44,7 +45,8 @@ pub record Demand2 : Type 0 where
   pub before_asymm : (p q : List ℕ) → Before p q → Before q p → ⊥
   pub before_trans : (p q s : List ℕ) → Before p q → Before q s → Before p s
   pub paths_number : (m : ℕ) → 2 ≤ m → 2 * length (paths m) ≡ m !
-  pub paths_used : (m : ℕ) → in_m m ≡ true → (paths_in_use m ≤ length (paths m)) × (length (paths m) < 2 * paths_in_use m)
+  pub paths_used : (m : ℕ) → in_m m ≡ true →
+      (paths_in_use m ≤ length (paths m)) × (length (paths m) < 2 * paths_in_use m)
   -- LABELS. Label numbers are in label order: by path number, then c_1, .., c_m, then c. The bits of a message number
   -- are those of its path number, highest, then of c_1 to c_m, then of c, h plain binary bits each. A message has a
   -- path in use and coefficients below 2^h, and every choice of these is a message's.
@@ -81,7 +83,8 @@ pub record Demand2 : Type 0 where
       (reading_told r ≡ refuses 5 []) ↔ (Symbols h m w × ((g : ℕ) → g < messages h m → word_of h m g ≢ w))
   -- So it refuses 5 the word of every label l whose path is not in use.
   pub read_unused : (h m l : ℕ) (r : Reading) → in_shape h m ≡ true → paths_in_use m ≤ label_path h m l →
-      label_path h m l < length (paths m) → reading_told r ≡ read_outcome h m (list_below (carriers m) (word_at h m l)) →
+      label_path h m l < length (paths m) →
+      reading_told r ≡ read_outcome h m (list_below (carriers m) (word_at h m l)) →
       reading_told r ≡ refuses 5 []
   -- PAIRS (001, Theorem 3). The word and the partner of every message of every shape are a pair, and the pair check
   -- says yes to what encode and partner write.

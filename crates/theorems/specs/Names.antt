@@ -1,7 +1,7 @@
 -- Names that the claims of the index share.
--- Defines:  word h m g, partner h m g    the word and the partner of message g, as functions of the place
---           Encodes h m g d w     encode of message g writes, and leaves w in the slice that held d
---           Partners h m g d w    the same of partner
+-- Defines:  word h m g, partner h m g  the word and the partner of message g, as functions of the place
+--           Encodes h m g d w          encode of message g writes, and leaves w in the slice that held d
+--           Partners h m g d w         the same of partner
 -- Assumes nothing: these are definitions.
 use Rattle.std.specs.Prelude.{ℕ, List}
 use Rattle.rules.specs.Label.{label_of}

@@ -26,7 +26,8 @@ pub gains_with_at_run : (q n : ℕ) (w g : List ℕ) (s i : ℕ) → i < n →
 unfolding gains_with_at
 gains_with_at_run q n w g s i l = rw (digits_div s l, digits_mod s l)
 
-pub gains_with_at_lem : (q n : ℕ) (w g : List ℕ) (e : ℕ) → e < q * n → get_or (gains_with q n w g) e 0 ≡ gains_with_at q n w g e
+pub gains_with_at_lem : (q n : ℕ) (w g : List ℕ) (e : ℕ) → e < q * n →
+    get_or (gains_with q n w g) e 0 ≡ gains_with_at q n w g e
 unfolding gains_with
 gains_with_at_lem q n w g e l = list_below_at (q * n) (gains_with_at q n w g) e 0 l
 

@@ -76,9 +76,11 @@ module _ (h : ℕ) (ys : List ℤ) (small : (k : ℕ) → mag (entry ys k) < rai
   unfolding soft_gain
   soft_gain_le i s =
       let y : ℤ = entry ys (half_turn h * i + s) in
-      cond_le (ltb s (half_turn h)) (raised y) _ (2 * raise_by) (raised_le y (small (half_turn h * i + s))) (omega arith)
+      cond_le (ltb s (half_turn h)) (raised y) _ (2 * raise_by) (raised_le y (small (half_turn h * i + s)))
+      (omega arith)
 
-  pub soft_gain_lem : (i s : ℕ) → 1 ≤ h → h ≤ 2 → s < phases h → pos (soft_gain h ys i s) ≡ pos raise_by +ℤ heard h ys i s
+  pub soft_gain_lem : (i s : ℕ) → 1 ≤ h → h ≤ 2 → s < phases h →
+      pos (soft_gain h ys i s) ≡ pos raise_by +ℤ heard h ys i s
   soft_gain_lem i s one two l =
       rw (soft_gain_half h ys i s one l, heard_half h ys i s one two l)
       (gain_shift (leb (half_turn h) s) _ (small (half_turn h * i + s % half_turn h)))

@@ -1,10 +1,10 @@
 -- The gains of soft values and of symbols, for two and four phases: natural numbers, greater where a symbol fits
 -- better.
--- Defines:  raise_by           32,768, the size of the least soft value: what a soft value is raised by
---           raised z           z + 32,768, for a sixteen-bit number z
+-- Defines:  raise_by            32,768, the size of the least soft value: what a soft value is raised by
+--           raised z            z + 32,768, for a sixteen-bit number z
 --           soft_gain h ys i s  32,768 plus what symbol s adds to the correlation at place i
---           nearness h a s     half a turn less the Lee distance of the symbols a and s
---           hard_gain h w i s  the nearness of symbol s and the symbol of w at place i
+--           nearness h a s      half a turn less the Lee distance of the symbols a and s
+--           hard_gain h w i s   the nearness of symbol s and the symbol of w at place i
 --           table_of h m f      the table of gains f i s, in runs of N, a run for each symbol
 -- Laws: proofs/SoftTotals.antt, HardTotals.antt (totals and correlations, totals and distances).
 -- Assumes nothing: these are definitions.

@@ -1,7 +1,7 @@
 -- Gains and totals. A table of gains is a list of natural numbers: for each symbol a run of N, what the symbol gains at
 -- each place. The total of a label is what the symbols of its word gain, over all places.
 -- Defines:  gain_at n g i s    what symbol s gains at place i, in a table g whose runs are n long
---           total_of h m g l    the total of label l
+--           total_of h m g l   the total of label l
 -- Laws: proofs/Totals.antt.  Assumes nothing: these are definitions.
 use Rattle.std.specs.Prelude.{ℕ, ◌+◌, ◌*◌, List, get_or}
 use Rattle.range.specs.Below.{sum_below}

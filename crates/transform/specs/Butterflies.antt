@@ -5,7 +5,7 @@
 --           Readable s n a       a stage may read the first n entries of a: blocks of 2 s fill them, and any two of
 --                                them can be added
 --           Block s p a d        the block that begins at p may be read of a and written to d
---           first_at m k a        what the first area holds after k stages: what the last even stage wrote, and
+--           first_at m k a       what the first area holds after k stages: what the last even stage wrote, and
 --           second_at m k a b    the second: what the last odd stage wrote; before any stage, b
 -- Laws: proofs/Halves.antt, Stages.antt.  Assumes nothing: these are definitions.
 use Rattle.std.specs.Prelude.{ℕ, zero, suc, ◌+◌, ◌-◌, ◌*◌, ◌/◌, ◌%◌, ◌^◌, ◌≤◌, ◌<◌, ◌≡◌, cond, List}

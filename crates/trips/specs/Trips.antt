@@ -1,7 +1,7 @@
 -- What the round trips promise: the slices afterwards, the answer on them, and what comes back where nothing is
 -- refused.
 -- Defines:  written h m g d w     what encode or partner leaves in a slice that held d, of a word w for message g
---           ReadBack, HardBack, CheckBack    the promises, of slices before and after and the answer r
+--           ReadBack, HardBack, CheckBack  the promises, of slices before and after and the answer r
 -- Laws: proofs/TripLaws.antt (only one outcome keeps each).  Assumes nothing: these are definitions.
 use Rattle.std.specs.Prelude.{ℕ, ◌≤◌, ◌≡◌, false, List, length}
 use Rattle.rules.specs.Word.{word_of, partner_of}

@@ -128,7 +128,8 @@ module _ (h : ℕ) (c : ℕ → ℕ) where
       let e : w + h * (suc m + 1) ≡ w + h * (m + 1) + h = omega (arith, suc-mul m h, mul_comm h m, mul-suc h m) in
       rw (e, pow-add 2 (w + h * (m + 1)) h) (digits_lt (below_pow w m n (c (suc m)) a (fewer m s) (last_lt m s)) b)
 
-  pub number_of_lt : (m n c0 : ℕ) → n < paths_in_use m → Coefficients m → c0 < phases h → number_of h m n c c0 < labels h m
+  pub number_of_lt : (m n c0 : ℕ) → n < paths_in_use m → Coefficients m → c0 < phases h →
+      number_of h m n c c0 < labels h m
   number_of_lt m n c0 a s b = below_pow (path_bits m) m n c0 a s b
 
 -- the number of a label's own parts is the label

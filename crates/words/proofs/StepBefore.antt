@@ -22,7 +22,8 @@ unfoldable pub step_before : (ℕ → ℕ) → (ℕ → ℕ) → ℕ → List �
 step_before x y c [] = c
 step_before x y c (v ∷ p) = cond (eqb (x v) (y v)) (step_before x y v p) c
 
-pub step_before_same : (x y : ℕ → ℕ) (u : ℕ) (p : List ℕ) → x u ≡ y u → x (step_before x y u p) ≡ y (step_before x y u p)
+pub step_before_same : (x y : ℕ → ℕ) (u : ℕ) (p : List ℕ) → x u ≡ y u →
+    x (step_before x y u p) ≡ y (step_before x y u p)
 unfolding step_before
 step_before_same x y u [] e = e
 step_before_same x y u (v ∷ p) e = at (eqb (x v) (y v)) refl (λ f. step_before_same x y v p f)

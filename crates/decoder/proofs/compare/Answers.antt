@@ -17,13 +17,16 @@ pub loop-e-preserved : goal.loop-e-preserved
 unfolding hard_gain
 loop-e-preserved c =
     let ranged : InRange c.args.h c.args.m = in_shape_range c.args.h c.args.m c.requires.m_value.0 in
-    let places : c.power-n.result ≡ carriers c.args.m = c.power-n.ensures ∙ power_carriers c.args.h c.args.m c.requires.m_value.0 in
-    let turn : c.power-q.result ≡ phases c.args.h = c.power-q.ensures ∙ power_phases c.args.h c.args.m c.requires.m_value.0 in
-    let inside : c.loop-e.e < length c.args.gains.now = omega (arith, c.loop-e-test.true, c.loop-e.invariant.fills.sized) in
+    let places : c.power-n.result ≡ carriers c.args.m =
+    c.power-n.ensures ∙ power_carriers c.args.h c.args.m c.requires.m_value.0 in
+    let turn : c.power-q.result ≡ phases c.args.h =
+    c.power-q.ensures ∙ power_phases c.args.h c.args.m c.requires.m_value.0 in
+    let inside : c.loop-e.e < length c.args.gains.now =
+    omega (arith, c.loop-e-test.true, c.loop-e.invariant.fills.sized) in
     let e = c.loop-e.e in
-    filling_turn c.loop-e.invariant (inside) c.loop-e-test.true
-    (c.hard_gain.ensures c.args.h (ranged).h_least (turn)
-    ∙ ap (λ (n : ℕ). hard_gain c.args.h c.args.word.now (e % n) (e / n)) (places))
+    filling_turn c.loop-e.invariant inside c.loop-e-test.true
+    (c.hard_gain.ensures c.args.h ranged.h_least turn
+    ∙ ap (λ (n : ℕ). hard_gain c.args.h c.args.word.now (e % n) (e / n)) places)
 
 pub returns : goal.returns
 returns c =

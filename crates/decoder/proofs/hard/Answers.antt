@@ -9,6 +9,7 @@ use Rattle.decoder.proofs.hard.Goals as goal
 
 pub gains_of-n-requires : goal.gains_of-n-requires
 gains_of-n-requires c =
-    let free : hard_refusal c.args.h c.args.m c.args.word.now ≡ allowed = sym c.hard.ensures ∙ ap judged_told c.in_default.is in
-    let t = hard_taken _ _ _ (free) in
+    let free : hard_refusal c.args.h c.args.m c.args.word.now ≡ allowed =
+    sym c.hard.ensures ∙ ap judged_told c.in_default.is in
+    let t = hard_taken _ _ _ free in
     (t.symbols.shape, t.few)

@@ -13,27 +13,35 @@ use Rattle.totals.specs.Gains.{nearness}
 use Rattle.decoder.proofs.hard_gain.Goals.{After-minus-d}
 use Rattle.decoder.proofs.hard_gain.Goals as goal
 
-difference-of : (c : After-minus-d) → (h : ℕ) → c.args.q ≡ phases h → c.minus-d.result ≡ minus (phases h) c.args.a c.args.s
-difference-of c h e =
+difference_of : (c : After-minus-d) → (h : ℕ) → c.args.q ≡ phases h →
+    c.minus-d.result ≡ minus (phases h) c.args.a c.args.s
+difference_of c h e =
     let difference : c.minus-d.result ≡ minus c.args.q c.args.a c.args.s = c.minus-d.ensures in
     difference ∙ ap (λ (q : ℕ). minus q c.args.a c.args.s) e
 
-difference-lt : (c : After-minus-d) → c.minus-d.result < c.args.q
+difference_lt : (c : After-minus-d) → c.minus-d.result < c.args.q
 unfolding minus
-difference-lt c =
+difference_lt c =
     let difference : c.minus-d.result ≡ minus c.args.q c.args.a c.args.s = c.minus-d.ensures in
     omega (arith, difference, mod-lt (c.args.a + (c.args.q - c.args.s)) {m = c.args.q} (omega (arith, c.requires.1)))
 
 pub returns-then-d-q : goal.returns-then-d-q
 unfolding lee_of nearness
 returns-then-d-q c h one e =
-    omega (arith, e, difference-of (goal.at.returns-then-d-q c).After-minus-d h e, phases_half h one, c.if-d-q.true)
+    omega (arith, e, difference_of (goal.at.returns-then-d-q c).After-minus-d h e, phases_half h one, c.if-d-q.true)
 
 pub overflow_cast-result-2 : goal.overflow_cast-result-2
 overflow_cast-result-2 c =
-    omega (arith, difference-lt (goal.at.overflow_cast-result-2 c).After-minus-d)
+    omega (arith, difference_lt (goal.at.overflow_cast-result-2 c).After-minus-d)
 
 pub returns : goal.returns
 unfolding lee_of nearness
 returns c h one e =
-    omega (arith, e, difference-of (goal.at.returns c).After-minus-d h e, difference-lt (goal.at.returns c).After-minus-d, phases_half h one, c.if-d-q.false)
+    omega (
+      arith,
+      e,
+      difference_of (goal.at.returns c).After-minus-d h e,
+      difference_lt (goal.at.returns c).After-minus-d,
+      phases_half h one,
+      c.if-d-q.false,
+    )

@@ -11,7 +11,8 @@ use Rattle.decoder.proofs.Values.{SmallAt}
 use Rattle.decoder.proofs.raise.Given as goal
 
 abbrev pub invariant-loop-e : goal.invariant-loop-e
-invariant-loop-e l = Filling (gain_of l.m (soft_gain l.h l.values)) l.initial.gains 0 (length l.initial.gains) l.gains l.e
+invariant-loop-e l =
+    Filling (gain_of l.m (soft_gain l.h l.values)) l.initial.gains 0 (length l.initial.gains) l.gains l.e
     × ((k : ℕ) → k < l.e → SmallAt l.half l.n l.values k)
 
 abbrev pub decreases-loop-e : goal.decreases-loop-e

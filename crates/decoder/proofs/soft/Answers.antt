@@ -9,6 +9,7 @@ use Rattle.decoder.proofs.soft.Goals as goal
 
 pub gains_of-n-requires : goal.gains_of-n-requires
 gains_of-n-requires c =
-    let free : soft_refusal c.args.h c.args.m c.args.values.now ≡ allowed = sym c.soft.ensures ∙ ap judged_told c.in_default.is in
-    let t = soft_taken _ _ _ (free) in
+    let free : soft_refusal c.args.h c.args.m c.args.values.now ≡ allowed =
+    sym c.soft.ensures ∙ ap judged_told c.in_default.is in
+    let t = soft_taken _ _ _ free in
     (t.shape, t.few)

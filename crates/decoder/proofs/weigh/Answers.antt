@@ -14,9 +14,9 @@ taken c =
     hard_taken _ _ _ c.requires.word_value
 
 -- the standing is that of the gains
-searched-gains : (c : After-search) → c.search.result
+searched_gains : (c : After-search) → c.search.result
     ≡ searched c.args.h c.args.m (table_of c.args.h c.args.m (hard_gain c.args.h c.args.word.now))
-searched-gains c =
+searched_gains c =
     c.search.ensures ∙ ap (searched c.args.h c.args.m) c.compare.ensures
 
 pub compare-requires : goal.compare-requires
@@ -29,7 +29,7 @@ as_distance-requires c =
     let t = taken (goal.at.as_distance-requires c).Start in (
       t.symbols.shape,
       hard_best_le _ _ t.symbols.shape t.few c.search.result c.args.word.now t.symbols.below
-          (searched-gains (goal.at.as_distance-requires c).After-search),
+          (searched_gains (goal.at.as_distance-requires c).After-search),
     )
 
 pub returns : goal.returns
@@ -37,4 +37,4 @@ returns c =
     let e = c.as_distance.ensures in
     let t = taken (goal.at.returns c).Start in
     hard_found _ _ t.symbols.shape t.few c.search.result c.args.word.now t.symbols.below
-    (searched-gains (goal.at.returns c).After-search) _ _ _ e.0 e.1 e.2
+    (searched_gains (goal.at.returns c).After-search) _ _ _ e.0 e.1 e.2

@@ -15,8 +15,8 @@ loop-i-init c =
 pub loop-i-preserved : goal.loop-i-preserved
 loop-i-preserved c =
     let inside : c.loop-i.i < length c.args.out.now = omega (arith, c.loop-i-test.true, c.loop-i.invariant.1) in
-    let at-loop = c.loop-i in (
+    let at_loop = c.loop-i in (
       omega (arith, inside),
-      simp length-set at-loop.invariant.1,
-      filled_turn at-loop.i _ _ at-loop.out _ (inside) at-loop.invariant.2 c.symbol.ensures,
+      simp length-set at_loop.invariant.1,
+      filled_turn at_loop.i _ _ at_loop.out _ inside at_loop.invariant.2 c.symbol.ensures,
     )

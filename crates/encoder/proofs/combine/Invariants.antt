@@ -9,7 +9,10 @@ use Rattle.encoder.specs.Arrays.{symbol_of}
 use Rattle.encoder.proofs.combine.Given as goal
 
 abbrev pub invariant-loop-i : goal.invariant-loop-i
-invariant-loop-i l = (l.i ≤ length l.initial.out) × (length l.out ≡ length l.initial.out) × (l.out ≡ filled l.i (symbol_of l.g l.p l.c l.m l.q l.s) l.initial.out)
+invariant-loop-i l =
+    (l.i ≤ length l.initial.out)
+    × (length l.out ≡ length l.initial.out)
+    × (l.out ≡ filled l.i (symbol_of l.g l.p l.c l.m l.q l.s) l.initial.out)
 
 abbrev pub decreases-loop-i : goal.decreases-loop-i
 decreases-loop-i l = length l.initial.out - l.i

@@ -19,14 +19,14 @@ zeros = replicate (carriers greatest_m) 0
 pub loop-i-init : goal.loop-i-init
 loop-i-init c =
     let row_of : ℕ → ℕ = λ k. digit c.args.m k c.args.r in
-    (lit≤ tt, filled_zero (row_of) zeros)
+    (lit≤ tt, filled_zero row_of zeros)
 
 pub loop-i-preserved : goal.loop-i-preserved
 unfolding digit
 loop-i-preserved c =
     let row_of : ℕ → ℕ = λ k. digit c.args.m k c.args.r in (
       search rules,
-      filled_turn c.loop-i.i (row_of) zeros c.loop-i.row _
+      filled_turn c.loop-i.i row_of zeros c.loop-i.row _
           c.loop-i-test.true c.loop-i.invariant.1
           (ap (λ (e : ℕ). c.loop-i.i / 2 ^ e % 2) c.less-e.ensures),
     )

@@ -20,7 +20,8 @@ held : (c : After-steps-p) → let q = c.power-q.result in
     c.split-t.result.c q (c.args.lift * (q / 2))
 held c =
     let ranged : InRange c.args.h c.args.m = in_shape_range _ _ c.requires.m_value in
-    let base : c.power-q.result ≡ phases c.args.h = c.power-q.ensures ∙ power_phases c.args.h c.args.m c.requires.m_value in
+    let base : c.power-q.result ≡ phases c.args.h =
+    c.power-q.ensures ∙ power_phases c.args.h c.args.m c.requires.m_value in
     let used : c.split-t.result.path.0 < paths_in_use c.args.m =
     omega (
       arith,
@@ -34,34 +35,35 @@ held c =
       used = c.requires.label_bound;
       rows = c.generator-g.ensures;
       steps =
-          c.steps-p.ensures ∙ steps_of_used _ _ range.m_least range.m_most (used)
+          c.steps-p.ensures ∙ steps_of_used _ _ range.m_least range.m_most used
           ∙ ap (path_row c.args.m) parts.path;
       coefficients = parts.rows;
       base = base;
       lifted =
-          ap (λ (x : ℕ). c.args.lift * (x / 2)) (base)
+          ap (λ (x : ℕ). c.args.lift * (x / 2)) base
           ∙ ap (λ (x : ℕ). c.args.lift * x) (phases_by_two c.args.h range.h_least);
     }
 
 pub combine-requires : goal.combine-requires
 combine-requires c =
     let ranged : InRange c.args.h c.args.m = in_shape_range _ _ c.requires.m_value in
-    let base : c.power-q.result ≡ phases c.args.h = c.power-q.ensures ∙ power_phases c.args.h c.args.m c.requires.m_value in
-    let base-most : c.power-q.result ≤ phases greatest_h = omega (arith, base, phases_most _ _ (ranged)) in
-    let lift-small : c.args.lift * (c.power-q.result / 2) ≤ half_turn greatest_h =
+    let base : c.power-q.result ≡ phases c.args.h =
+    c.power-q.ensures ∙ power_phases c.args.h c.args.m c.requires.m_value in
+    let base_most : c.power-q.result ≤ phases greatest_h = omega (arith, base, phases_most _ _ ranged) in
+    let lift_small : c.args.lift * (c.power-q.result / 2) ≤ half_turn greatest_h =
     mul-le-mul {n₁ = c.args.lift} {m₁ = c.power-q.result / 2} {n₂ = 1} {m₂ = half_turn greatest_h}
-    c.requires.lift_bound (omega (arith, base-most)) in
+    c.requires.lift_bound (omega (arith, base_most)) in
     let h = held (goal.at.combine-requires c).After-steps-p in
     record {
       bounded = record {
         cells = held_cells _ _ _ _ _ _ _ _ _ h;
         small = held_small _ _ _ _ _ _ _ _ _ h;
         walk = held_walk _ _ _ _ _ _ _ _ _ h;
-        least = omega (arith, base, phases_least _ _ (ranged));
-        most = base-most;
-        lift = lift-small;
+        least = omega (arith, base, phases_least _ _ ranged);
+        most = base_most;
+        lift = lift_small;
       };
-      out_len_bound = omega (arith, c.requires.out_len, carriers_most _ _ (ranged));
+      out_len_bound = omega (arith, c.requires.out_len, carriers_most _ _ ranged);
     }
 
 pub returns : goal.returns

@@ -21,17 +21,17 @@ loop-r-init c =
 
 pub loop-r-preserved : goal.loop-r-preserved
 loop-r-preserved c =
-    let at-loop = c.loop-r in
+    let at_loop = c.loop-r in
     let m = c.args.m in (
       search rules,
       search rules,
-      filled_turn at-loop.r (row m) ones at-loop.g _ c.loop-r-test.true at-loop.invariant.2
-          (c.digits-row.ensures ∙ generator_row m at-loop.r (carriers greatest_m) at-loop.invariant.0),
+      filled_turn at_loop.r (row m) ones at_loop.g _ c.loop-r-test.true at_loop.invariant.2
+          (c.digits-row.ensures ∙ generator_row m at_loop.r (carriers greatest_m) at_loop.invariant.0),
     )
 
 pub returns : goal.returns
 unfolding generator_rows
 returns c =
-    let at-loop = c.loop-r in
-    filled_end (greatest_m + 1) at-loop.r (row c.args.m) ones at-loop.g refl
-    (omega (arith, at-loop.invariant.1, c.loop-r-test.false)) at-loop.invariant.2
+    let at_loop = c.loop-r in
+    filled_end (greatest_m + 1) at_loop.r (row c.args.m) ones at_loop.g refl
+    (omega (arith, at_loop.invariant.1, c.loop-r-test.false)) at_loop.invariant.2

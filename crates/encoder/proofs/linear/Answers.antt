@@ -18,10 +18,11 @@ loop-r-init c =
 
 pub overflow_add-sum : goal.overflow_add-sum
 overflow_add-sum c =
-    let coefficientAt : ℕ → ℕ = λ r. get_or c.args.c r 0 in
-    let termAt : ℕ → ℕ = λ r. coefficientAt r * cell c.args.g r c.args.i in
-    let term : let r = c.loop-r.r in coefficientAt r * c.at.result ≡ termAt r = ap (λ (x : ℕ). coefficientAt c.loop-r.r * x) c.at.ensures in
-    let small : coefficientAt c.loop-r.r * c.at.result ≤ most_term =
+    let coefficient_at : ℕ → ℕ = λ r. get_or c.args.c r 0 in
+    let term_at : ℕ → ℕ = λ r. coefficient_at r * cell c.args.g r c.args.i in
+    let term : coefficient_at c.loop-r.r * c.at.result ≡ term_at c.loop-r.r =
+    ap (λ (x : ℕ). coefficient_at c.loop-r.r * x) c.at.ensures in
+    let small : coefficient_at c.loop-r.r * c.at.result ≤ most_term =
     omega (
       arith,
       term,
@@ -41,15 +42,16 @@ overflow_add-sum c =
 
 pub loop-r-preserved : goal.loop-r-preserved
 loop-r-preserved c =
-    let coefficientAt : ℕ → ℕ = λ r. get_or c.args.c r 0 in
-    let termAt : ℕ → ℕ = λ r. coefficientAt r * cell c.args.g r c.args.i in
-    let term : let r = c.loop-r.r in coefficientAt r * c.at.result ≡ termAt r = ap (λ (x : ℕ). coefficientAt c.loop-r.r * x) c.at.ensures in
-    let turn = c.loop-r in (search rules, sum_below_turn turn.r turn.sum _ _ turn.invariant.1 (term))
+    let coefficient_at : ℕ → ℕ = λ r. get_or c.args.c r 0 in
+    let term_at : ℕ → ℕ = λ r. coefficient_at r * cell c.args.g r c.args.i in
+    let term : coefficient_at c.loop-r.r * c.at.result ≡ term_at c.loop-r.r =
+    ap (λ (x : ℕ). coefficient_at c.loop-r.r * x) c.at.ensures in
+    let turn = c.loop-r in (search rules, sum_below_turn turn.r turn.sum _ _ turn.invariant.1 term)
 
 pub returns : goal.returns
 unfolding linear_of
 returns c =
-    let coefficientAt : ℕ → ℕ = λ r. get_or c.args.c r 0 in
-    let termAt : ℕ → ℕ = λ r. coefficientAt r * cell c.args.g r c.args.i in
+    let coefficient_at : ℕ → ℕ = λ r. get_or c.args.c r 0 in
+    let term_at : ℕ → ℕ = λ r. coefficient_at r * cell c.args.g r c.args.i in
     let turn = c.loop-r in
-    turn.invariant.1 ∙ ap (λ (n : ℕ). sum_below n (termAt)) (omega (arith, turn.invariant.0, c.loop-r-test.false))
+    turn.invariant.1 ∙ ap (λ (n : ℕ). sum_below n term_at) (omega (arith, turn.invariant.0, c.loop-r-test.false))

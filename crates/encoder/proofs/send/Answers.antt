@@ -17,20 +17,24 @@ use Rattle.encoder.proofs.send.Goals as goal
 
 pub fill-requires : goal.fill-requires
 fill-requires c =
-    let free : send_refusal c.args.h c.args.m (length c.args.out.now) c.args.message.0 ≡ allowed = sym c.send.ensures ∙ ap judged_told c.in_default.is in
-    let taken : SendTaken c.args.h c.args.m (length c.args.out.now) c.args.message.0 = send_taken _ _ _ _ (free) in
-    let label_is : c.label_of-label.result ≡ label_of c.args.h c.args.m c.args.message.0 = c.label_of-label.ensures.0 (taken).shape in
-    let label-lt : c.label_of-label.result < labels c.args.h c.args.m =
-    subst (λ (l : ℕ). l < labels c.args.h c.args.m) (sym (label_is))
-    (label_of_lt c.args.h c.args.m c.args.message.0 (taken).message) in
-    record { lift_bound = c.requires; m_value = (taken).shape; label_bound = label-lt; out_len = (taken).long }
+    let free : send_refusal c.args.h c.args.m (length c.args.out.now) c.args.message.0 ≡ allowed =
+    sym c.send.ensures ∙ ap judged_told c.in_default.is in
+    let taken : SendTaken c.args.h c.args.m (length c.args.out.now) c.args.message.0 = send_taken _ _ _ _ free in
+    let label_is : c.label_of-label.result ≡ label_of c.args.h c.args.m c.args.message.0 =
+    c.label_of-label.ensures.0 taken.shape in
+    let label_lt : c.label_of-label.result < labels c.args.h c.args.m =
+    subst (λ (l : ℕ). l < labels c.args.h c.args.m) (sym label_is)
+    (label_of_lt c.args.h c.args.m c.args.message.0 taken.message) in
+    record { lift_bound = c.requires; m_value = taken.shape; label_bound = label_lt; out_len = taken.long }
 
 pub returns : goal.returns
 returns c =
-    let free : send_refusal c.args.h c.args.m (length c.args.out.now) c.args.message.0 ≡ allowed = sym c.send.ensures ∙ ap judged_told c.in_default.is in
-    let taken : SendTaken c.args.h c.args.m (length c.args.out.now) c.args.message.0 = send_taken _ _ _ _ (free) in
-    let label_is : c.label_of-label.result ≡ label_of c.args.h c.args.m c.args.message.0 = c.label_of-label.ensures.0 (taken).shape in
-    sent_done c.args.h c.args.m c.args.message.0 _ _ _ (free)
+    let free : send_refusal c.args.h c.args.m (length c.args.out.now) c.args.message.0 ≡ allowed =
+    sym c.send.ensures ∙ ap judged_told c.in_default.is in
+    let taken : SendTaken c.args.h c.args.m (length c.args.out.now) c.args.message.0 = send_taken _ _ _ _ free in
+    let label_is : c.label_of-label.result ≡ label_of c.args.h c.args.m c.args.message.0 =
+    c.label_of-label.ensures.0 taken.shape in
+    sent_done c.args.h c.args.m c.args.message.0 _ _ _ free
     (c.fill.ensures
     ∙ ap (λ (l : ℕ). list_below (carriers c.args.m) (lifted_at c.args.h c.args.m l (c.args.lift * half_turn c.args.h)))
-    (label_is))
+    label_is)

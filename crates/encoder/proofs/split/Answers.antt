@@ -20,15 +20,16 @@ path_is c =
 
 pub loop-r-init : goal.loop-r-init
 loop-r-init c =
-    let base : c.power-q.result ≡ phases c.args.h = c.power-q.ensures ∙ power_phases c.args.h c.args.m c.requires.m_value in
-    divided_first c.args.h c.args.m c.args.label c.power-q.result (replicate (suc greatest_m) 0) (base) refl
+    let base : c.power-q.result ≡ phases c.args.h =
+    c.power-q.ensures ∙ power_phases c.args.h c.args.m c.requires.m_value in
+    divided_first c.args.h c.args.m c.args.label c.power-q.result (replicate (suc greatest_m) 0) base refl
 
 pub loop-r-preserved : goal.loop-r-preserved
 loop-r-preserved c =
     let ranged : InRange c.args.h c.args.m = in_shape_range _ _ c.requires.m_value in
-    let at-loop = c.loop-r in
-    divided_step _ _ _ _ at-loop.r at-loop.rest at-loop.c at-loop.invariant c.loop-r-test.true
-    (ranged).m_most
+    let at_loop = c.loop-r in
+    divided_step _ _ _ _ at_loop.r at_loop.rest at_loop.c at_loop.invariant c.loop-r-test.true
+    ranged.m_most
 
 pub overflow_cast-path : goal.overflow_cast-path
 overflow_cast-path c =
@@ -41,8 +42,8 @@ overflow_cast-path c =
 
 pub returns : goal.returns
 returns c =
-    let at-loop = c.loop-r in
+    let at_loop = c.loop-r in
     record {
       path = path_is (goal.at.returns c).After-loop-r;
-      rows = divided_rows _ _ _ _ _ _ at-loop.c at-loop.invariant (omega (arith, c.loop-r-test.false));
+      rows = divided_rows _ _ _ _ _ _ at_loop.c at_loop.invariant (omega (arith, c.loop-r-test.false));
     }

@@ -9,7 +9,10 @@ own_word-requires c =
 
 pub begin-requires : goal.begin-requires
 begin-requires c =
-    record { word_fits = path_word_fits _ _ _ _ _ _ c.requires _ c.own_word.ensures; gains_in_bounds = path_room _ _ _ _ _ _ c.requires }
+    record {
+      word_fits = path_word_fits _ _ _ _ _ _ c.requires _ c.own_word.ensures;
+      gains_in_bounds = path_room _ _ _ _ _ _ c.requires;
+    }
 
 pub climb-requires : goal.climb-requires
 climb-requires c =

@@ -45,7 +45,7 @@ loop-n-preserved c =
     let done = c.path-st in (
       omega (arith, c.loop-n-test.true),
       omega (arith, at.invariant.1),
-      rw c.requires.sizes.labels (lead_from_stretch 0 (totals) at.first _ at.first _ nobody at.st
+      rw c.requires.sizes.labels (lead_from_stretch 0 totals at.first _ at.first _ nobody at.st
           done.result at.invariant.2 (sym (zero-add at.first)) (λ j _. refl) done.ensures),
       done.auto.word ∙ at.invariant.3,
       done.auto.x ∙ at.invariant.4,
@@ -58,5 +58,5 @@ returns c =
     let totals : ℕ → ℕ = total_of c.args.z.h c.args.z.m c.args.gains.now in
     let at = c.loop-n in
     let e : at.n ≡ c.args.z.uses = omega (arith, at.invariant.0, c.loop-n-test.false) in
-    lead_from_end 0 (totals) at.first _ nobody at.st at.invariant.2
+    lead_from_end 0 totals at.first _ nobody at.st at.invariant.2
     (at.invariant.1 ∙ ap (λ (k : ℕ). k * c.args.z.size) e ∙ all_labels c.requires.sizes)

@@ -18,8 +18,9 @@ use Rattle.engine.proofs.search.Goals as goal
 fits : (c : After-power-n) → c.power-n.result ≤ carriers greatest_m
 fits c =
     let taken : accepts c.args.h c.args.m c.args.gains.now ≡ true = sym c.takes.ensures ∙ c.if-not-takes.false in
-    let places : c.power-n.result ≡ carriers c.args.m = c.power-n.ensures ∙ power_carriers c.args.h c.args.m (accepts_given _ _ _ (taken)).shape in
-    let r = in_shape_range c.args.h c.args.m (accepts_given _ _ _ (taken)).shape in
+    let places : c.power-n.result ≡ carriers c.args.m =
+    c.power-n.ensures ∙ power_carriers c.args.h c.args.m (accepts_given _ _ _ taken).shape in
+    let r = in_shape_range c.args.h c.args.m (accepts_given _ _ _ taken).shape in
     omega (arith, places, carriers_most c.args.h c.args.m r)
 
 -- the gains are accepted for the shape that the sizes hold
@@ -27,7 +28,7 @@ accepted : (c : After-sizes_of) → let z = c.sizes_of.result in
     accepts z.h z.m c.args.gains.now ≡ true
 accepted c =
     let taken : accepts c.args.h c.args.m c.args.gains.now ≡ true = sym c.takes.ensures ∙ c.if-not-takes.false in
-    rw (c.sizes_of.ensures.1, c.sizes_of.ensures.2) (taken)
+    rw (c.sizes_of.ensures.1, c.sizes_of.ensures.2) taken
 
 pub returns-then-not-takes : goal.returns-then-not-takes
 returns-then-not-takes c =
@@ -36,7 +37,7 @@ returns-then-not-takes c =
 pub sizes_of-requires : goal.sizes_of-requires
 sizes_of-requires c =
     let taken : accepts c.args.h c.args.m c.args.gains.now ≡ true = sym c.takes.ensures ∙ c.if-not-takes.false in
-    (accepts_given _ _ _ (taken)).shape
+    (accepts_given _ _ _ taken).shape
 
 pub slice_bounds-word-end : goal.slice_bounds-word-end
 slice_bounds-word-end c =
@@ -49,7 +50,8 @@ slice_bounds-paths-end c =
 pub paths-requires : goal.paths-requires
 paths-requires c =
     let taken : accepts c.args.h c.args.m c.args.gains.now ≡ true = sym c.takes.ensures ∙ c.if-not-takes.false in
-    let places : c.power-n.result ≡ carriers c.args.m = c.power-n.ensures ∙ power_carriers c.args.h c.args.m (accepts_given _ _ _ (taken)).shape in
+    let places : c.power-n.result ≡ carriers c.args.m =
+    c.power-n.ensures ∙ power_carriers c.args.h c.args.m (accepts_given _ _ _ taken).shape in
     let given = accepts_given _ _ _ (accepted (goal.at.paths-requires c).After-sizes_of) in
     let n = places ∙ ap carriers (sym c.sizes_of.ensures.2) in
     record {

@@ -22,7 +22,7 @@ ranged c =
 size_is : (c : After-power) → c.power.result ≡ phases c.args.h * carriers c.args.m
 size_is c =
     let ranged : in_shape c.args.h c.args.m ≡ true = sym c.in_shape.ensures ∙ c.if-in_shape.true in
-    let r = in_shape_range c.args.h c.args.m (ranged) in
+    let r = in_shape_range c.args.h c.args.m ranged in
     c.power.ensures ∙ power_is _ (omega (arith, r.h_most, r.m_most)) ∙ sym (table_size c.args.h c.args.m)
 
 pub returns-then-gains-power : goal.returns-then-gains-power
@@ -35,13 +35,16 @@ pub returns-else-gains-power : goal.returns-else-gains-power
 unfolding accepts
 returns-else-gains-power c =
     rw (size_is (goal.at.returns-else-gains-power c).After-power)
-    (and_of_false _ _ (ne_eqb _ _ (λ e. c.if-gains-power.false (e ∙ sym (size_is (goal.at.returns-else-gains-power c).After-power))))
-    ∙ and_of_true _ _ (le-leb _ _ c.if-h-le-GREATEST_DECODED.true) ∙ and_of_true _ _ (ranged (goal.at.returns-else-gains-power c).Then-in_shape))
+    (and_of_false _ _ (ne_eqb _ _
+    (λ e. c.if-gains-power.false (e ∙ sym (size_is (goal.at.returns-else-gains-power c).After-power))))
+    ∙ and_of_true _ _ (le-leb _ _ c.if-h-le-GREATEST_DECODED.true)
+    ∙ and_of_true _ _ (ranged (goal.at.returns-else-gains-power c).Then-in_shape))
 
 pub returns-else-h-le-GREATEST_DECODED : goal.returns-else-h-le-GREATEST_DECODED
 unfolding accepts
 returns-else-h-le-GREATEST_DECODED c =
-    and_of_false _ _ (lt-leb _ _ c.if-h-le-GREATEST_DECODED.false) ∙ and_of_true _ _ (ranged (goal.at.returns-else-h-le-GREATEST_DECODED c).Then-in_shape)
+    and_of_false _ _ (lt-leb _ _ c.if-h-le-GREATEST_DECODED.false)
+    ∙ and_of_true _ _ (ranged (goal.at.returns-else-h-le-GREATEST_DECODED c).Then-in_shape)
 
 pub returns-else-in_shape : goal.returns-else-in_shape
 unfolding accepts

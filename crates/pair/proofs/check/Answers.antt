@@ -11,9 +11,11 @@ use Rattle.pair.proofs.Given.{pair_given, pair_words}
 use Rattle.pair.proofs.check.Goals.{After-all_shifts}
 use Rattle.pair.proofs.check.Goals as goal
 
-answered : (c : After-all_shifts) → gives c.all_shifts.result ≡ pair_outcome c.args.h c.args.m c.args.first.now c.args.second.now
+answered : (c : After-all_shifts) →
+    gives c.all_shifts.result ≡ pair_outcome c.args.h c.args.m c.args.first.now c.args.second.now
 answered c =
-    let words : Symbols c.args.h c.args.m c.args.first.now × Symbols c.args.h c.args.m c.args.second.now = pair_taken _ _ _ _ (sym c.pair.ensures ∙ ap judged_told c.in_default.is) in
+    let words : Symbols c.args.h c.args.m c.args.first.now × Symbols c.args.h c.args.m c.args.second.now =
+    pair_taken _ _ _ _ (sym c.pair.ensures ∙ ap judged_told c.in_default.is) in
     let w = words in
     ap gives (c.all_shifts.ensures _ w.0.long) ∙ pair_given _ _ _ _ w.0 w.1
 
@@ -24,8 +26,9 @@ returns-in-Refused c =
 
 pub all_shifts-requires : goal.all_shifts-requires
 all_shifts-requires c =
-    let words : Symbols c.args.h c.args.m c.args.first.now × Symbols c.args.h c.args.m c.args.second.now = pair_taken _ _ _ _ (sym c.pair.ensures ∙ ap judged_told c.in_default.is) in
-    pair_words _ _ _ _ (words).0 (words).1
+    let words : Symbols c.args.h c.args.m c.args.first.now × Symbols c.args.h c.args.m c.args.second.now =
+    pair_taken _ _ _ _ (sym c.pair.ensures ∙ ap judged_told c.in_default.is) in
+    pair_words _ _ _ _ words.0 words.1
 
 pub returns-then-all_shifts : goal.returns-then-all_shifts
 returns-then-all_shifts c =

@@ -22,13 +22,13 @@ overflow_add-found c =
 
 pub loop-j-preserved : goal.loop-j-preserved
 loop-j-preserved c =
-    let q-is : c.power-q.result ≡ phases c.args.h = c.power-q.ensures ∙ power_is _ (omega (arith, c.requires.0)) in
+    let q_is : c.power-q.result ≡ phases c.args.h = c.power-q.ensures ∙ power_is _ (omega (arith, c.requires.0)) in
     let inv = c.loop-j.invariant in
     let is = c.minus.ensures in (
       omega arith,
       omega arith,
       elim c.if-minus-k.branch [
-        | then-minus-k w ↦ w.found-is ∙ phase_count_hit _ _ _ _ _ _ _ _ q-is inv.0 inv.2 is w.if-minus-k.true
-        | else-minus-k w ↦ w.found-is ∙ phase_count_miss _ _ _ _ _ _ _ _ q-is inv.0 inv.2 is w.if-minus-k.false
+        | then-minus-k w ↦ w.found-is ∙ phase_count_hit _ _ _ _ _ _ _ _ q_is inv.0 inv.2 is w.if-minus-k.true
+        | else-minus-k w ↦ w.found-is ∙ phase_count_miss _ _ _ _ _ _ _ _ q_is inv.0 inv.2 is w.if-minus-k.false
       ],
     )

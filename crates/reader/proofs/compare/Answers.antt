@@ -9,5 +9,9 @@ pub returns : goal.returns
 returns c =
     let e = sent_word c.encode.ensures
     (send_allowed c.args.h c.args.m _ _
-    (record { shape = c.requires.symbols.shape; long = c.requires.buffer_len ∙ c.requires.symbols.long; message = c.requires.message_bound })) in
+    (record {
+      shape = c.requires.symbols.shape;
+      long = c.requires.buffer_len ∙ c.requires.symbols.long;
+      message = c.requires.message_bound;
+    })) in
     (λ t. sym e ∙ c.same.ensures.0 t, λ q. c.same.ensures.1 (e ∙ q))

@@ -30,4 +30,8 @@ slice_bounds-compare-end c =
 
 pub compare-requires : goal.compare-requires
 compare-requires c =
-    record { symbols = c.requires.symbols; message_bound = c.requires.message_bound; buffer_len = length-take-le _ zeros (fits (goal.at.compare-requires c).After-shared_slice_known-1) }
+    record {
+      symbols = c.requires.symbols;
+      message_bound = c.requires.message_bound;
+      buffer_len = length-take-le _ zeros (fits (goal.at.compare-requires c).After-shared_slice_known-1);
+    }

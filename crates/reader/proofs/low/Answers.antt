@@ -30,23 +30,26 @@ base c =
 small : (c : At-loop-k) → c.loop-k.number * c.power-q.result ≤ 2 ^ most_coefficient_bits * phases greatest_h
 small c =
     let ranged : InRange c.args.h c.args.m = in_shape_range _ _ c.requires.shape in
-    let base : c.power-q.result ≡ phases c.args.h = c.power-q.ensures ∙ power_phases c.args.h c.args.m c.requires.shape in
-    let base-most : c.power-q.result ≤ phases greatest_h = omega (arith, base, phases_most _ _ (ranged)) in
+    let base : c.power-q.result ≡ phases c.args.h =
+    c.power-q.ensures ∙ power_phases c.args.h c.args.m c.requires.shape in
+    let base_most : c.power-q.result ≤ phases greatest_h = omega (arith, base, phases_most _ _ ranged) in
     let range = ranged in
     let bound = shown_up_to_small c.args.h c.args.m c.args.word.now c.loop-k.k range c.loop-k.invariant.0 in
     mul-le-mul {n₁ = c.loop-k.number} {m₁ = c.power-q.result} {n₂ = 2 ^ most_coefficient_bits}
-    {m₂ = phases greatest_h} (omega (arith, c.loop-k.invariant.1, bound)) (base-most)
+    {m₂ = phases greatest_h} (omega (arith, c.loop-k.invariant.1, bound)) base_most
 
 -- what is added is the next coefficient
 taken : (c : After-minus) → c.minus.result ≡ shown c.args.h c.args.m c.args.word.now (c.loop-k.k + 1)
 unfolding shown
 taken c =
     let ranged : InRange c.args.h c.args.m = in_shape_range _ _ c.requires.shape in
-    let base : c.power-q.result ≡ phases c.args.h = c.power-q.ensures ∙ power_phases c.args.h c.args.m c.requires.shape in
-    let place : c.power-at.result ≡ 2 ^ (c.args.m - (c.loop-k.k + 1)) = c.power-at.ensures ∙ power_is _ (omega (arith, (ranged).m_most)) in
+    let base : c.power-q.result ≡ phases c.args.h =
+    c.power-q.ensures ∙ power_phases c.args.h c.args.m c.requires.shape in
+    let place : c.power-at.result ≡ 2 ^ (c.args.m - (c.loop-k.k + 1)) =
+    c.power-at.ensures ∙ power_is _ (omega (arith, ranged.m_most)) in
     let w = c.args.word.now in
     c.minus.ensures
-    ∙ ap₂ (λ (q i : ℕ). minus q (symbol_at w i) (symbol_at w 0)) (base) (place)
+    ∙ ap₂ (λ (q i : ℕ). minus q (symbol_at w i) (symbol_at w 0)) base place
 
 pub loop-k-init : goal.loop-k-init
 unfolding shown_up_to
@@ -59,7 +62,8 @@ overflow_mul-number c =
 
 pub bounds-word-at : goal.bounds-word-at
 bounds-word-at c =
-    let place : c.power-at.result ≡ 2 ^ (c.args.m - (c.loop-k.k + 1)) = c.power-at.ensures ∙ power_is _ (omega (arith, (ranged (goal.at.bounds-word-at c).After-power-q).m_most)) in
+    let place : c.power-at.result ≡ 2 ^ (c.args.m - (c.loop-k.k + 1)) =
+    c.power-at.ensures ∙ power_is _ (omega (arith, (ranged (goal.at.bounds-word-at c).After-power-q).m_most)) in
     let place_lt : c.power-at.result < length c.args.word.now =
     let k = c.loop-k.k in
     let inside = one_lt c.args.m (k + 1) (omega arith) (omega (arith, c.loop-k-test.true)) in
@@ -79,7 +83,9 @@ overflow_add-number c =
 pub loop-k-preserved : goal.loop-k-preserved
 loop-k-preserved c = (
   omega (arith, c.loop-k-test.true),
-  ap₂ (λ (x y : ℕ). x + y) (ap₂ (λ (x y : ℕ). x * y) c.loop-k.invariant.1 (base (goal.at.loop-k-preserved c).After-power-q)) (taken (goal.at.loop-k-preserved c).After-minus)
+  ap₂ (λ (x y : ℕ). x + y)
+      (ap₂ (λ (x y : ℕ). x * y) c.loop-k.invariant.1 (base (goal.at.loop-k-preserved c).After-power-q))
+      (taken (goal.at.loop-k-preserved c).After-minus)
       ∙ shown_up_to_next _ _ _ _,
 )
 
@@ -89,8 +95,15 @@ overflow_mul-result c =
 
 pub overflow_add-result : goal.overflow_add-result
 overflow_add-result c =
-    let first_small : symbol_at c.args.word.now 0 < phases c.args.h = first_lt c.args.h c.args.m c.args.word.now c.requires in
-    omega (arith, small (goal.at.overflow_add-result c).At-loop-k, c.wide.ensures, phases_most _ _ (ranged (goal.at.overflow_add-result c).After-power-q), first_small)
+    let first_small : symbol_at c.args.word.now 0 < phases c.args.h =
+    first_lt c.args.h c.args.m c.args.word.now c.requires in
+    omega (
+      arith,
+      small (goal.at.overflow_add-result c).At-loop-k,
+      c.wide.ensures,
+      phases_most _ _ (ranged (goal.at.overflow_add-result c).After-power-q),
+      first_small,
+    )
 
 pub returns : goal.returns
 unfolding low_of

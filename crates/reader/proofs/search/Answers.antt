@@ -29,66 +29,75 @@ loop-n-init c =
 
 pub is_word-requires : goal.is_word-requires
 is_word-requires c =
-    let uses-is : c.power-uses.result ≡ paths_in_use c.args.m = c.power-uses.ensures ∙ power_uses c.args.m _ c.path_bits.ensures in
+    let uses_is : c.power-uses.result ≡ paths_in_use c.args.m =
+    c.power-uses.ensures ∙ power_uses c.args.m _ c.path_bits.ensures in
     let label_at : ℕ = label_with c.args.h c.args.m c.args.word.now c.loop-n.n in
-    let label-lt : label_at < labels c.args.h c.args.m =
+    let label_lt : label_at < labels c.args.h c.args.m =
     label_with_lt c.args.h c.args.m c.args.word.now c.requires c.loop-n.n
-    (omega (arith, c.loop-n-test.true, uses-is)) in
-    let message-is : c.message_of-message.result.0 ≡ message_of c.args.h c.args.m (label_at) = c.message_of-message.ensures.0 c.requires.shape ∙ ap (message_of _ _) c.loop-n.invariant.1 in
-    let message-lt : c.message_of-message.result.0 < messages c.args.h c.args.m =
-    subst (λ (g : ℕ). g < messages c.args.h c.args.m) (sym (message-is))
-    (message_of_lt c.args.h c.args.m _ (label-lt)) in
-    record { symbols = c.requires; message_bound = message-lt }
+    (omega (arith, c.loop-n-test.true, uses_is)) in
+    let message_is : c.message_of-message.result.0 ≡ message_of c.args.h c.args.m label_at =
+    c.message_of-message.ensures.0 c.requires.shape ∙ ap (message_of _ _) c.loop-n.invariant.1 in
+    let message_lt : c.message_of-message.result.0 < messages c.args.h c.args.m =
+    subst (λ (g : ℕ). g < messages c.args.h c.args.m) (sym message_is)
+    (message_of_lt c.args.h c.args.m _ label_lt) in
+    record { symbols = c.requires; message_bound = message_lt }
 
 pub returns-then-is_word : goal.returns-then-is_word
 returns-then-is_word c =
-    let uses-is : c.power-uses.result ≡ paths_in_use c.args.m = c.power-uses.ensures ∙ power_uses c.args.m _ c.path_bits.ensures in
+    let uses_is : c.power-uses.result ≡ paths_in_use c.args.m =
+    c.power-uses.ensures ∙ power_uses c.args.m _ c.path_bits.ensures in
     let label_at : ℕ = label_with c.args.h c.args.m c.args.word.now c.loop-n.n in
-    let label-lt : label_at < labels c.args.h c.args.m =
+    let label_lt : label_at < labels c.args.h c.args.m =
     label_with_lt c.args.h c.args.m c.args.word.now c.requires c.loop-n.n
-    (omega (arith, c.loop-n-test.true, uses-is)) in
-    let message-is : c.message_of-message.result.0 ≡ message_of c.args.h c.args.m (label_at) = c.message_of-message.ensures.0 c.requires.shape ∙ ap (message_of _ _) c.loop-n.invariant.1 in
-    let message-lt : c.message_of-message.result.0 < messages c.args.h c.args.m =
-    subst (λ (g : ℕ). g < messages c.args.h c.args.m) (sym (message-is))
-    (message_of_lt c.args.h c.args.m _ (label-lt)) in
+    (omega (arith, c.loop-n-test.true, uses_is)) in
+    let message_is : c.message_of-message.result.0 ≡ message_of c.args.h c.args.m label_at =
+    c.message_of-message.ensures.0 c.requires.shape ∙ ap (message_of _ _) c.loop-n.invariant.1 in
+    let message_lt : c.message_of-message.result.0 < messages c.args.h c.args.m =
+    subst (λ (g : ℕ). g < messages c.args.h c.args.m) (sym message_is)
+    (message_of_lt c.args.h c.args.m _ label_lt) in
     let fits : message_with c.args.h c.args.m c.args.word.now ≡ some c.message_of-message.result.0 =
-    message_with_some c.args.h c.args.m c.args.word.now c.requires _ (message-lt)
+    message_with_some c.args.h c.args.m c.args.word.now c.requires _ message_lt
     (c.is_word.ensures.0 c.if-is_word.true) in
-    sym (ap or_no_word (fits))
+    sym (ap or_no_word fits)
 
 pub overflow_add-label : goal.overflow_add-label
 overflow_add-label c =
     let ranged : InRange c.args.h c.args.m = in_shape_range _ _ c.requires.shape in
-    let step_is : c.power-step.result ≡ phases c.args.h ^ (c.args.m + 1) = c.power-step.ensures ∙ power_labels c.args.h c.args.m (ranged) in
-    let uses-is : c.power-uses.result ≡ paths_in_use c.args.m = c.power-uses.ensures ∙ power_uses c.args.m _ c.path_bits.ensures in
+    let step_is : c.power-step.result ≡ phases c.args.h ^ (c.args.m + 1) =
+    c.power-step.ensures ∙ power_labels c.args.h c.args.m ranged in
+    let uses_is : c.power-uses.result ≡ paths_in_use c.args.m =
+    c.power-uses.ensures ∙ power_uses c.args.m _ c.path_bits.ensures in
     let label_at : ℕ = label_with c.args.h c.args.m c.args.word.now c.loop-n.n in
-    let label-lt : label_at < labels c.args.h c.args.m =
+    let label_lt : label_at < labels c.args.h c.args.m =
     label_with_lt c.args.h c.args.m c.args.word.now c.requires c.loop-n.n
-    (omega (arith, c.loop-n-test.true, uses-is)) in
-    let step-le : c.power-step.result ≤ 2 ^ most_coefficient_bits =
+    (omega (arith, c.loop-n-test.true, uses_is)) in
+    let step_le : c.power-step.result ≤ 2 ^ most_coefficient_bits =
     subst (λ (x : ℕ). x ≤ 2 ^ most_coefficient_bits) (sym (step_is ∙ phases_pow c.args.h (c.args.m + 1)))
-    (pow_mono (coefficient_bits_le c.args.h c.args.m (ranged))) in
-    let bits = messages_most c.args.h c.args.m (ranged) in
-    omega (arith, c.loop-n.invariant.1, label-lt, bits, step-le)
+    (pow_mono (coefficient_bits_le c.args.h c.args.m ranged)) in
+    let bits = messages_most c.args.h c.args.m ranged in
+    omega (arith, c.loop-n.invariant.1, label_lt, bits, step_le)
 
 pub loop-n-preserved : goal.loop-n-preserved
 loop-n-preserved c =
     let ranged : InRange c.args.h c.args.m = in_shape_range _ _ c.requires.shape in
-    let step_is : c.power-step.result ≡ phases c.args.h ^ (c.args.m + 1) = c.power-step.ensures ∙ power_labels c.args.h c.args.m (ranged) in
+    let step_is : c.power-step.result ≡ phases c.args.h ^ (c.args.m + 1) =
+    c.power-step.ensures ∙ power_labels c.args.h c.args.m ranged in
     let label_at : ℕ = label_with c.args.h c.args.m c.args.word.now c.loop-n.n in
-    let message-is : c.message_of-message.result.0 ≡ message_of c.args.h c.args.m (label_at) = c.message_of-message.ensures.0 c.requires.shape ∙ ap (message_of _ _) c.loop-n.invariant.1 in
-    let misses : word_of c.args.h c.args.m (message_of c.args.h c.args.m (label_at)) ≡ c.args.word.now → ⊥ = λ e.
-    let same = ap (word_of _ _) (message-is) ∙ e in
+    let message_is : c.message_of-message.result.0 ≡ message_of c.args.h c.args.m label_at =
+    c.message_of-message.ensures.0 c.requires.shape ∙ ap (message_of _ _) c.loop-n.invariant.1 in
+    let misses : word_of c.args.h c.args.m (message_of c.args.h c.args.m label_at) ≡ c.args.word.now → ⊥ = λ e.
+    let same = ap (word_of _ _) message_is ∙ e in
     false≢true (sym c.if-is_word.false ∙ c.is_word.ensures.1 same) in (
       omega (arith, c.loop-n-test.true),
-      ap₂ (λ (x y : ℕ). x + y) c.loop-n.invariant.1 (step_is) ∙ label_with_next _ _ _ _,
-      below_more _ _ c.loop-n.invariant.2 (misses),
+      ap₂ (λ (x y : ℕ). x + y) c.loop-n.invariant.1 step_is ∙ label_with_next _ _ _ _,
+      below_more _ _ c.loop-n.invariant.2 misses,
     )
 
 pub returns : goal.returns
 returns c =
-    let uses-is : c.power-uses.result ≡ paths_in_use c.args.m = c.power-uses.ensures ∙ power_uses c.args.m _ c.path_bits.ensures in
+    let uses_is : c.power-uses.result ≡ paths_in_use c.args.m =
+    c.power-uses.ensures ∙ power_uses c.args.m _ c.path_bits.ensures in
     sym
     (ap or_no_word
     (message_with_none c.args.h c.args.m c.args.word.now c.requires
-    (λ n b. c.loop-n.invariant.2 n (omega (arith, c.loop-n-test.false, uses-is)))))
+    (λ n b. c.loop-n.invariant.2 n (omega (arith, c.loop-n-test.false, uses_is)))))

@@ -16,12 +16,14 @@ returns-then-not-in_use c =
 pub bounds-first : goal.bounds-first
 unfolding list_below path_bits starts sum_below
 bounds-first c =
-    let used : (2 ≤ c.args.m) × (c.args.m ≤ greatest_m) × (c.args.n.0 < paths_in_use c.args.m) = in_use_range _ _ (sym c.in_use.ensures ∙ c.if-not-in_use.false) in
-    start_lt _ _ (used).0 (used).1 (used).2
+    let used : (2 ≤ c.args.m) × (c.args.m ≤ greatest_m) × (c.args.n.0 < paths_in_use c.args.m) =
+    in_use_range _ _ (sym c.in_use.ensures ∙ c.if-not-in_use.false) in
+    start_lt _ _ used.0 used.1 used.2
 
 pub returns : goal.returns
 unfolding flat_map keep list_below orders packed path_at path_bits paths rows_below starts sum_below table up_to without
 returns c =
-    let used : (2 ≤ c.args.m) × (c.args.m ≤ greatest_m) × (c.args.n.0 < paths_in_use c.args.m) = in_use_range _ _ (sym c.in_use.ensures ∙ c.if-not-in_use.false) in
+    let used : (2 ≤ c.args.m) × (c.args.m ≤ greatest_m) × (c.args.n.0 < paths_in_use c.args.m) =
+    in_use_range _ _ (sym c.in_use.ensures ∙ c.if-not-in_use.false) in
     let u = used in
     c.unpack.ensures ∙ table_steps _ _ u.0 u.1 u.2

@@ -17,13 +17,13 @@ loop-k-init c =
 pub loop-k-preserved : goal.loop-k-preserved
 loop-k-preserved c =
     let inside : c.loop-k.k < greatest_m = omega (arith, c.loop-k-test.true, c.requires) in
-    let at-loop = c.loop-k in
-    let next = filled_turn at-loop.k _ zeros at-loop.p _ (inside) at-loop.invariant.1 refl in
+    let at_loop = c.loop-k in
+    let next = filled_turn at_loop.k _ zeros at_loop.p _ inside at_loop.invariant.1 refl in
     (omega (arith, c.loop-k-test.true), next)
 
 pub returns : goal.returns
 unfolding unpacked
 returns c =
-    let at-loop = c.loop-k in
-    let e : at-loop.k ≡ c.args.m = omega (arith, at-loop.invariant.0, c.loop-k-test.false) in
-    at-loop.invariant.1 ∙ ap (λ (j : ℕ). filled j (step_in c.args.m c.args.number) zeros) e
+    let at_loop = c.loop-k in
+    let e : at_loop.k ≡ c.args.m = omega (arith, at_loop.invariant.0, c.loop-k-test.false) in
+    at_loop.invariant.1 ∙ ap (λ (j : ℕ). filled j (step_in c.args.m c.args.number) zeros) e

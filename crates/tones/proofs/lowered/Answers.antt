@@ -20,8 +20,8 @@ less v p = mag_difference v 32768 32768 (omega arith) (omega arith)
 read : (v : ℕ) → v < 65536 → to_z w32 v ≡ pos v
 read v p = to_z-of_z w32 (pos v) (record { sfits = omega arith })
 
-fits-32 : (v : ℕ) → v < 65536 → SFits w32 (pos v -ℤ pos 32768)
-fits-32 v p = record { sfits = omega (arith, less v p) }
+fits_32 : (v : ℕ) → v < 65536 → SFits w32 (pos v -ℤ pos 32768)
+fits_32 v p = record { sfits = omega (arith, less v p) }
 
 fits_16 : (v : ℕ) → v < 65536 → SFits w16 (pos v -ℤ pos 32768)
 fits_16 v p = record { sfits = omega (arith, less v p) }
@@ -38,5 +38,5 @@ unfolding lowered
 returns c =
     let v = c.args.value in
     let e : min v 65535 ≡ v = omega (arith, below c) in
-    rw (e, read v (below c), to_z-of_z w32 (pos v -ℤ pos 32768) (fits-32 v (below c)))
+    rw (e, read v (below c), to_z-of_z w32 (pos v -ℤ pos 32768) (fits_32 v (below c)))
     (to_z-of_z w16 (pos v -ℤ pos 32768) (fits_16 v (below c)))

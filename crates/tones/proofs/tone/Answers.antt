@@ -12,9 +12,9 @@ use Rattle.tones.proofs.tone.Goals as goal
 
 -- by the number of phases, and for four by whether the value is the part that the symbol stands on
 module _ (a : ℕ) (four : Bool) (w : List ℕ) (e s : ℕ) where
-  tone-two : four ≡ false → s ≡ get_or w e 0 → side a (eqb s 0) ≡ tone a four w e
+  tone_two : four ≡ false → s ≡ get_or w e 0 → side a (eqb s 0) ≡ tone a four w e
   unfolding tone
-  tone-two f q = rw (f, q)
+  tone_two f q = rw (f, q)
 
   module _ (f : four ≡ true) (q : s ≡ get_or w (e / 2) 0) where
     tone-none : (s % 2 ≡ e % 2 → ⊥) → 32768 ≡ tone a four w e
@@ -28,7 +28,7 @@ module _ (a : ℕ) (four : Bool) (w : List ℕ) (e s : ℕ) where
 pub returns-then-not-four : goal.returns-then-not-four
 returns-then-not-four c =
     let at = c.before in
-    c.side.ensures ∙ tone-two _ _ _ _ _ at.if-not-four.true at.symbol.ensures
+    c.side.ensures ∙ tone_two _ _ _ _ _ at.if-not-four.true at.symbol.ensures
 
 pub returns-then-s-e : goal.returns-then-s-e
 returns-then-s-e c =

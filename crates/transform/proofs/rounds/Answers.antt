@@ -11,8 +11,8 @@ use Rattle.transform.proofs.rounds.Goals.{Start, then-k-eq0, else-k-eq0}
 use Rattle.transform.proofs.rounds.Goals as goal
 
 -- a number that is not even
-odd-of : (k : ℕ) → (k % 2 ≡ 0 → ⊥) → k % 2 ≡ 1
-odd-of k n = omega arith
+odd_of : (k : ℕ) → (k % 2 ≡ 0 → ⊥) → k % 2 ≡ 1
+odd_of k n = omega arith
 
 -- nothing is refused, and what that says
 taken : (c : Start) → TransformTaken c.args.m c.args.first.now c.args.second.now
@@ -35,7 +35,7 @@ stage-requires-clause-n_in_bounds c =
 pub stage-requires-else-k-eq0-clause-readable : goal.stage-requires-else-k-eq0-clause-readable
 stage-requires-else-k-eq0-clause-readable c =
     between_reads_second _ _ _ _ (taken (goal.at.stage-requires-else-k-eq0-clause-readable c).Start)
-    c.requires.n_value _ _ _ _ c.loop-k.invariant c.loop-k-test.true (odd-of c.loop-k.k c.if-k-eq0.false)
+    c.requires.n_value _ _ _ _ c.loop-k.invariant c.loop-k-test.true (odd_of c.loop-k.k c.if-k-eq0.false)
 
 pub stage-requires-else-k-eq0-clause-n_in_bounds : goal.stage-requires-else-k-eq0-clause-n_in_bounds
 stage-requires-else-k-eq0-clause-n_in_bounds c =
@@ -53,5 +53,5 @@ loop-k-preserved c =
           (w.second-is ∙ w.stage.ensures))
       | else-k-eq0 w ↦ rw w.second-is
           (between_odd _ _ _ _ t size _ _ _ _ c.loop-k.invariant c.loop-k-test.true
-          (odd-of c.loop-k.k w.if-k-eq0.false) _ (w.first-is ∙ w.stage-else-k-eq0.ensures))
+          (odd_of c.loop-k.k w.if-k-eq0.false) _ (w.first-is ∙ w.stage-else-k-eq0.ensures))
     ]

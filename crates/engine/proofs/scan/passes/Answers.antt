@@ -19,5 +19,5 @@ loop-s-preserved c =
       omega (arith, c.loop-s-test.true),
       below_next
           (λ k. (i : ℕ) → i < c.args.w → pair_at c.args.q 1 c.args.w c.args.table.now k c.args.c i ≤ c.args.second)
-          at.s at.invariant.1 (low),
+          at.s at.invariant.1 low,
     )

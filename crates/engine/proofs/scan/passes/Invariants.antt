@@ -6,7 +6,8 @@ use Rattle.totals.specs.Climb.{pair_at}
 use Rattle.engine.proofs.scan.passes.Given as goal
 
 abbrev pub invariant-loop-s : goal.invariant-loop-s
-invariant-loop-s l = (l.s ≤ l.q) × ((k : ℕ) → k < l.s → (i : ℕ) → i < l.w → pair_at l.q 1 l.w l.table k l.c i ≤ l.second)
+invariant-loop-s l =
+    (l.s ≤ l.q) × ((k : ℕ) → k < l.s → (i : ℕ) → i < l.w → pair_at l.q 1 l.w l.table k l.c i ≤ l.second)
 
 abbrev pub decreases-loop-s : goal.decreases-loop-s
 decreases-loop-s l = l.q - l.s

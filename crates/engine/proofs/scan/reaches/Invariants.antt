@@ -8,7 +8,9 @@ use lib.ListN.{get_or}
 use Rattle.engine.proofs.scan.reaches.Given as goal
 
 abbrev pub invariant-loop-i : goal.invariant-loop-i
-invariant-loop-i l = (l.i ≤ l.w) × (l.found ≡ false → (j : ℕ) → j < l.i → get_or l.table (l.a + j) 0 + get_or l.table (l.b + j) 0 ≤ l.second)
+invariant-loop-i l =
+    (l.i ≤ l.w)
+    × (l.found ≡ false → (j : ℕ) → j < l.i → get_or l.table (l.a + j) 0 + get_or l.table (l.b + j) 0 ≤ l.second)
 
 abbrev pub decreases-loop-i : goal.decreases-loop-i
 decreases-loop-i l = l.w - l.i

@@ -57,7 +57,8 @@ sum-requires c =
     let at = c.loop-c in
     let some : 0 < c.args.q * c.args.half = omega (arith, c.requires.t_bound.0) in
     omega (arith, at.invariant.2, mod-lt (c.args.t + at.c * c.args.half) some) in
-    let second : 2 * (c.loop-c.b * c.args.w) + 2 * c.args.w ≤ length c.args.from.now = runs_within c.requires.runs c.loop-c.b (number) in
+    let second : 2 * (c.loop-c.b * c.args.w) + 2 * c.args.w ≤ length c.args.from.now =
+    runs_within c.requires.runs c.loop-c.b number in
     record {
       i_in_bounds = (
         omega (arith, first (goal.at.sum-requires c).In-loop-c, c.even_run-a.ensures, c.loop-r-test.true),
@@ -92,7 +93,8 @@ loop-r-preserved c =
     c.odd_run-d.ensures in
     let at = c.loop-r in (
       omega (arith, c.loop-r-test.true),
-      fills_next _ _ _ _ at.r _ at.invariant.1 (omega (arith, place (goal.at.loop-r-preserved c).In-loop-r, at.invariant.1.sized)) (summed),
+      fills_next _ _ _ _ at.r _ at.invariant.1
+          (omega (arith, place (goal.at.loop-r-preserved c).In-loop-r, at.invariant.1.sized)) summed,
     )
 
 pub overflow_add-at : goal.overflow_add-at
@@ -122,11 +124,11 @@ overflow_add-b c =
 pub loop-c-preserved : goal.loop-c-preserved
 loop-c-preserved c =
     let at = c.loop-c in
-    let in-run = c.loop-r in
-    let i : at.at + in-run.r ≡ at.at + c.args.w =
-    omega (arith, in-run.invariant.0, c.loop-r-test.false) in (
+    let in_run = c.loop-r in
+    let i : at.at + in_run.r ≡ at.at + c.args.w =
+    omega (arith, in_run.invariant.0, c.loop-r-test.false) in (
       omega (arith, c.loop-c-test.true),
       omega (arith, at.invariant.1),
       further_step _ at.c _ _ at.b _ at.invariant.2 c.wrap-b.ensures,
-      fills_trans at.invariant.3 (subst (Fills _ at.to at.at in-run.to) i in-run.invariant.1),
+      fills_trans at.invariant.3 (subst (Fills _ at.to at.at in_run.to) i in_run.invariant.1),
     )

@@ -13,7 +13,11 @@ pub overflow_add-o : goal.overflow_add-o
 overflow_add-o c =
     let room : c.loop-t.o + c.args.q * c.args.w ≤ c.args.q * c.args.half * c.args.q * c.args.w =
     let at = c.loop-t in
-    omega (arith, times_within at.t (c.args.q * c.args.half) (c.args.q * c.args.w) c.loop-t-test.true, at.invariant.1) in
+    omega (
+      arith,
+      times_within at.t (c.args.q * c.args.half) (c.args.q * c.args.w) c.loop-t-test.true,
+      at.invariant.1,
+    ) in
     omega (arith, room, c.requires.to_len)
 
 pub returns : goal.returns

@@ -8,7 +8,8 @@ use Rattle.totals.specs.Climb.{climbed_at}
 use Rattle.engine.proofs.stages.pass.Given as goal
 
 abbrev pub invariant-loop-t : goal.invariant-loop-t
-invariant-loop-t l = (l.t ≤ l.n) × (l.o ≡ l.t * l.step) × Fills (climbed_at l.q l.half l.w l.from) l.initial.to 0 l.to l.o
+invariant-loop-t l =
+    (l.t ≤ l.n) × (l.o ≡ l.t * l.step) × Fills (climbed_at l.q l.half l.w l.from) l.initial.to 0 l.to l.o
 
 abbrev pub decreases-loop-t : goal.decreases-loop-t
 decreases-loop-t l = l.n - l.t

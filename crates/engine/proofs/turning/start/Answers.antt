@@ -14,4 +14,5 @@ unfolding gains_with
 returns c =
     let at = c.loop-s in
     let e : at.s ≡ c.args.q = omega (arith, at.invariant.0, c.loop-s-test.false) in
-    fills_all _ _ _ _ at.o at.invariant.2 c.requires.to_len (at.invariant.1 ∙ ap (λ (s : ℕ). s * length c.args.word.now) e)
+    fills_all _ _ _ _ at.o at.invariant.2 c.requires.to_len
+    (at.invariant.1 ∙ ap (λ (s : ℕ). s * length c.args.word.now) e)

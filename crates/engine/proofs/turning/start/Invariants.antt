@@ -8,7 +8,8 @@ use Rattle.totals.specs.Climb.{gains_with_at}
 use Rattle.engine.proofs.turning.start.Given as goal
 
 abbrev pub invariant-loop-s : goal.invariant-loop-s
-invariant-loop-s l = (l.s ≤ l.q) × (l.o ≡ l.s * l.n) × Fills (gains_with_at l.q l.n l.word l.gains) l.initial.to 0 l.to l.o
+invariant-loop-s l =
+    (l.s ≤ l.q) × (l.o ≡ l.s * l.n) × Fills (gains_with_at l.q l.n l.word l.gains) l.initial.to 0 l.to l.o
 
 abbrev pub decreases-loop-s : goal.decreases-loop-s
 decreases-loop-s l = l.q - l.s

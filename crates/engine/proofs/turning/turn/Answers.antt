@@ -31,5 +31,5 @@ loop-i-preserved c =
     c.loop-i-test.true c.requires.s_lt_q.1 c.index.ensures c.wrap-e.ensures in
     let at = c.loop-i in (
       omega (arith, c.loop-i-test.true),
-      fills_next _ _ _ _ at.i _ at.invariant.1 (omega (arith, place, at.invariant.1.sized)) (stored),
+      fills_next _ _ _ _ at.i _ at.invariant.1 (omega (arith, place, at.invariant.1.sized)) stored,
     )

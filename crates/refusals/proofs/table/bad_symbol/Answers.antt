@@ -17,9 +17,10 @@ pub returns-then-reaches : goal.returns-then-reaches
 unfolding bad_symbol
 returns-then-reaches c =
     let bad : ℕ → Bool = λ k. leb (phases c.args.h) (symbol_at c.args.word.now k) in
-    let told : bad c.loop-i.i ≡ c.reaches.result = sym (c.reaches.ensures ∙ ap (leb (phases c.args.h)) c.wide.ensures) in
+    let told : bad c.loop-i.i ≡ c.reaches.result =
+    sym (c.reaches.ensures ∙ ap (leb (phases c.args.h)) c.wide.ensures) in
     sym
-    (first_below_some (length c.args.word.now) (bad) c.loop-i.i
+    (first_below_some (length c.args.word.now) bad c.loop-i.i
     c.loop-i-test.true (told ∙ c.if-reaches.true) c.loop-i.invariant.1)
 
 pub returns : goal.returns
@@ -27,5 +28,5 @@ unfolding bad_symbol
 returns c =
     let bad : ℕ → Bool = λ k. leb (phases c.args.h) (symbol_at c.args.word.now k) in
     sym
-    (first_below_none (length c.args.word.now) (bad)
+    (first_below_none (length c.args.word.now) bad
     (λ k h. c.loop-i.invariant.1 k (omega (arith, c.loop-i-test.false))))

@@ -20,7 +20,7 @@ returns-then-not-takes c =
     let back = to_z-of_z w32 at.result (record { sfits = at.type_inv }) in
     ap not (sym (c.takes.ensures ∙ ap accepted (back ∙ at.ensures))) in
     sym
-    (first_below_some c.args.n (outside) c.loop-i.i
+    (first_below_some c.args.n outside c.loop-i.i
     c.loop-i-test.true
     (told ∙ ap not c.if-not-takes.true) c.loop-i.invariant.1)
 
@@ -28,5 +28,5 @@ pub returns : goal.returns
 returns c =
     let outside : ℕ → Bool = λ k. not (accepted (entry c.args.area.now k)) in
     sym
-    (first_below_none c.args.n (outside)
+    (first_below_none c.args.n outside
     (λ k h. c.loop-i.invariant.1 k (omega (arith, c.loop-i-test.false))))
