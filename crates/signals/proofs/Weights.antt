@@ -89,7 +89,7 @@ differ_differs q a b p r = by (eqb a b) refl
     by : (t : Bool) → eqb a b ≡ t → one_if (not t) ≡ differs (minus q a b)
     by true e = rw (eqb-true a b e, minus_self q b r)
     by false e = ap (λ t. one_if (not t))
-    (sym (ne_eqb (minus q a b) 0 (λ z. eqb-false a b e (eq_of_minus q a b p r z))))
+        (sym (ne_eqb (minus q a b) 0 (λ z. eqb-false a b e (eq_of_minus q a b p r z))))
 
 pub hamming_weigh : (q n : ℕ) (a b : ℕ → ℕ) → ((i : ℕ) → i < n → a i < q) → ((i : ℕ) → i < n → b i < q) →
     hamming n a b ≡ weigh differs q n a b
