@@ -1,7 +1,8 @@
 // Answers case lines: a line holds one call of the library, and its answer is one line of the output. A line that
 // begins with # is copied, and any other that is no call is answered `not a case`. Nothing of an answer is written
-// before the whole line is read. Words, values and areas hold the calls, telling what those of words and values answer,
-// parse, symbols and entries the pieces of a line. tests/cases.md says the form of a line and of its answer.
+// before the whole line is read. Wording, values and areas hold the calls on words, values and areas, telling what the
+// first two answer, parse, symbols and entries the pieces of a line. tests/cases.md says the form of a line and of its
+// answer.
 #![tactic(auto)]
 
 ghost use Rattle.std.specs.Prelude.{IfOk};
@@ -17,7 +18,7 @@ mod parse;
 mod symbols;
 mod telling;
 mod values;
-mod words;
+mod wording;
 
 // Most bytes of a text, and most bytes of a line.
 const MOST_OF_TEXT: usize = 2097152;
@@ -85,5 +86,5 @@ fn answered<W: Write>(out: &mut W, line: &[u8]) -> io::Result<bool> {
         say(out, line)?;
         return Ok(true);
     }
-    Ok(words::answered(out, line)? || values::answered(out, line)? || areas::answered(out, line)?)
+    Ok(wording::answered(out, line)? || values::answered(out, line)? || areas::answered(out, line)?)
 }
