@@ -7,6 +7,6 @@ ghost use Rattle.std.specs.Prelude.{◌≡◌};
 // A slice lent for reading is afterwards what it was, whatever is done with it: a function cannot write through it.
 // This holds of every function by its type, and is proved here with no proof file, so that no contract repeats it.
 pub fn lent_for_reading(symbols: &[u8], values: &[i16], entries: &[i32])
-    ensures { (symbols.now ≡ symbols.now) × (values.now ≡ values.now)
-        × (entries.now ≡ entries.now) }
+    ensures { (symbols.exit.now ≡ symbols.entry.now) × (values.exit.now ≡ values.entry.now)
+        × (entries.exit.now ≡ entries.entry.now) }
 {}
