@@ -26,8 +26,8 @@ use kinds::Judged;
 // of the second for odd m. The other area then holds what stood after stage m - 1, and entries from N on stay in both.
 // Refuses 1 an m out of range, 2 an area shorter than N, 7 one of the first N entries of the first area out of range.
 // Where it is refused nothing changes, and the part is the empty one at the front of the first area.
-// The part can only be read, so what the areas hold when it is over is known at the return. The starred clause says what
-// both areas hold at last, whole; the other what the part holds and where it stands.
+// The part can only be read, so what the areas hold when it is over is known at the return. The starred clause says
+// what both areas hold at last, whole; the other what the part holds and where it stands.
 pub fn transform<'a>(m: u32, first: &'a mut [i32], second: &'a mut [i32]) -> &'a [i32]
     ensures* areas { sem 𝓛 (AtLast m first.entry second.entry) }
     ensures handed { Handed m first.entry second.entry result }
