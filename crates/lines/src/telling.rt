@@ -11,7 +11,11 @@ use std::io;
 use std::io::Write;
 
 // With what the slice holds after the call.
-pub(super) fn tell_written<W: Write>(out: &mut W, answer: Result<(), Refusal>, word: &[u8]) -> io::Result<()> {
+pub(super) fn tell_written<W: Write>(
+    out: &mut W,
+    answer: Result<(), Refusal>,
+    word: &[u8],
+) -> io::Result<()> {
     match answer {
         Ok(()) => say(out, b"done")?,
         Err(kind) => refusal(out, kind)?,
@@ -29,7 +33,10 @@ pub(super) fn tell_paired<W: Write>(out: &mut W, answer: Result<bool, Refusal>) 
     }
 }
 
-pub(super) fn tell_reading<W: Write>(out: &mut W, answer: Result<MessageNumber, Refusal>) -> io::Result<()> {
+pub(super) fn tell_reading<W: Write>(
+    out: &mut W,
+    answer: Result<MessageNumber, Refusal>,
+) -> io::Result<()> {
     match answer {
         Ok(message) => tell_message(out, message),
         Err(kind) => refusal(out, kind),
