@@ -24,7 +24,9 @@ use Rattle.words.proofs.Forms.{form_at_rows, partner_at_form}
 use Rattle.words.proofs.Used.{label_path_is_path}
 use Rattle.words.proofs.Partners.{head_of_at}
 use Rattle.steps.specs.PathSteps.{path_row}
-use Rattle.encoder.specs.Arrays.{generator_rows, cell, linear_of, links_of, symbol_of, lifted_at, Cells, Small, Walk}
+use Rattle.encoder.specs.declared.Form.{Form}
+use Rattle.encoder.specs.Arrays.{generator_rows, cell, lifted_at, Small, Walk}
+use Rattle.encoder.specs.Forms.{step_at, linear_of, links_of, symbol_of}
 use Rattle.encoder.proofs.Matrix.{generator_at_digit, generator_rows_at, generator_rows_cells}
 
 -- the links of a path as a sum over its steps
@@ -51,15 +53,15 @@ module _ (h m l : ℕ) (range : InRange h m) (used : l < labels h m) where
   path_is = label_path_is_path h m l (range_in_m h m range) used
 
   -- the steps as code holds them
-  step_at : (k : ℕ) → k < m → get_or (path_row m (label_path h m l)) k 0 ≡ get_or path k 0
+  row_step : (k : ℕ) → k < m → get_or (path_row m (label_path h m l)) k 0 ≡ get_or path k 0
   unfolding path_row
-  step_at k h₁ = filled_at m (λ j. get_or path j 0) (replicate greatest_m 0) k 0 h₁
+  row_step k h₁ = filled_at m (λ j. get_or path j 0) (replicate greatest_m 0) k 0 h₁
 
   step_in : (k : ℕ) → k < m → (1 ≤ get_or path k 0) × (get_or path k 0 ≤ m)
   step_in k h₁ = is_path_in m path path_is k (omega (arith, path_is.long))
 
   pub walk : Walk m (path_row m (label_path h m l))
-  walk = record { least = range.m_least; steps = λ k h₁. omega (arith, step_at k h₁, (step_in k h₁).1) }
+  walk = record { least = range.m_least; steps = λ k h₁. omega (arith, row_step k h₁, (step_in k h₁).1) }
 
   module _ (i : ℕ) (inside : i < carriers m) where
     in_row : i < carriers greatest_m
@@ -69,68 +71,58 @@ module _ (h m l : ℕ) (range : InRange h m) (used : l < labels h m) where
     step_digit : (k : ℕ) → k < m →
         cell (generator_rows m) (get_or (path_row m (label_path h m l)) k 0) i ≡ digit m i (get_or path k 0)
     step_digit k h₁ =
-        ap (λ (r : ℕ). cell (generator_rows m) r i) (step_at k h₁)
+        ap (λ (r : ℕ). cell (generator_rows m) r i) (row_step k h₁)
         ∙ generator_rows_at m (get_or path k 0) i (omega (arith, (step_in k h₁).1, range.m_most)) in_row
         ∙ generator_at_digit m (get_or path k 0) i (step_in k h₁).0
-
-    links_is : links_of (generator_rows m) (path_row m (label_path h m l)) m i ≡ links (digit m i) path
-    unfolding links_of
-    links_is =
-        sum_below_cong (m - 1) _ (λ k. digit m i (get_or path k 0) * digit m i (get_or path (k + 1) 0))
-        (λ k h₁. ap₂ (λ (x y : ℕ). x * y) (step_digit k (omega arith)) (step_digit (k + 1) (omega arith)))
-        ∙ sym (links_sum (digit m i) (m - 1) path (omega (arith, path_is.long, range.m_least)))
-
-    first_is : cell (generator_rows m) (get_or (path_row m (label_path h m l)) 0 0) i ≡ digit m i (head_of path)
-    first_is = step_digit 0 (omega (arith, range.m_least)) ∙ ap (digit m i) (sym (head_of_at path))
-
-    module _ (c : List ℕ) (rows : (r : ℕ) → r ≤ m → get_or c r 0 ≡ row_coefficient h m l r) where
-      linear_is : linear_of (generator_rows m) c m i
-          ≡ sum_below (m + 1) (λ r. row_coefficient h m l r * generator_at m r i)
-      unfolding linear_of
-      linear_is =
-          sum_below_cong (m + 1) _ (λ r. row_coefficient h m l r * generator_at m r i)
-          (λ r h₁. ap₂ (λ (x y : ℕ). x * y) (rows r (omega arith))
-          (generator_rows_at m r i (omega (arith, range.m_most)) in_row))
-
-      pub symbol_is : (s : ℕ) →
-          symbol_of (generator_rows m) (path_row m (label_path h m l)) c m (phases h) s i ≡ lifted_at h m l s i
-      unfolding symbol_of lifted_at
-      symbol_is s = rw (form_at_rows h m l i, phases_by_two h range.h_least, links_is, linear_is, first_is)
 
 row_coefficient_lt : (h m l r : ℕ) → row_coefficient h m l r < phases h
 unfolding row_coefficient
 row_coefficient_lt h m l zero = constant_lt h l
 row_coefficient_lt h m l (suc r) = coefficient_lt h m l (suc r)
 
--- what the arrays of the encoder hold, and what follows
-pub record Held (h m l lift : ℕ) (g : List (List ℕ)) (p c : List ℕ) (q s : ℕ) : Type 0 where
-  pub range : InRange h m
-  pub used : l < labels h m
-  pub rows : g ≡ generator_rows m
-  pub steps : p ≡ path_row m (label_path h m l)
-  pub coefficients : (r : ℕ) → r ≤ m → get_or c r 0 ≡ row_coefficient h m l r
-  pub base : q ≡ phases h
-  pub lifted : s ≡ lift * half_turn h
+-- the form that the code makes of label l and a lift of so many half turns
+pub record IsFormOf (h m l lift : ℕ) (f : Form) : Type 0 where
+  pub count : f.m ≡ m
+  pub base : f.q ≡ phases h
+  pub rows : f.generator ≡ generator_rows m
+  pub steps : f.steps ≡ path_row m (label_path h m l)
+  pub coefficients : (r : ℕ) → r ≤ m → get_or f.coefficients r 0 ≡ row_coefficient h m l r
+  pub lifted : f.lift ≡ lift * half_turn h
 
-module _ (h m l lift : ℕ) (g : List (List ℕ)) (p c : List ℕ) (q s : ℕ) (held : Held h m l lift g p c q s) where
-  pub held_cells : Cells m g
-  held_cells = subst (Cells m) (sym held.rows) (generator_rows_cells m held.range.m_most)
+module _ (h m l lift : ℕ) (f : Form) (range : InRange h m) (used : l < labels h m) (of : IsFormOf h m l lift f) where
+  module _ (i : ℕ) (inside : i < carriers m) where
+    step_is : (k : ℕ) → k < m → step_at f i k ≡ digit m i (get_or (path h m l range used) k 0)
+    step_is k h₁ = rw (of.rows, of.steps) (step_digit h m l range used i inside k h₁)
 
-  pub held_small : Small m c
-  held_small = record {
-    small = λ r h₁. omega
-        (arith, held.coefficients r h₁, row_coefficient_lt h m l r, phases_most h m held.range);
-  }
+    links_is : links_of f i ≡ links (digit m i) (path h m l range used)
+    unfolding links_of
+    links_is =
+        rw of.count
+        (sum_below_cong (m - 1) _ (λ k. digit m i (get_or (path h m l range used) k 0) * digit m i (get_or (path h m l range used) (k + 1) 0))
+        (λ k h₁. ap₂ (λ (x y : ℕ). x * y) (step_is k (omega arith)) (step_is (k + 1) (omega arith)))
+        ∙ sym (links_sum (digit m i) (m - 1) (path h m l range used) (omega (arith, (path_is h m l range used).long, range.m_least))))
 
-  pub held_walk : Walk m p
-  held_walk = subst (Walk m) (sym held.steps) (walk h m l held.range held.used)
+    linear_is : linear_of f i ≡ sum_below (m + 1) (λ r. row_coefficient h m l r * generator_at m r i)
+    unfolding linear_of
+    linear_is =
+        rw (of.count, of.rows)
+        (sum_below_cong (m + 1) _ (λ r. row_coefficient h m l r * generator_at m r i)
+        (λ r h₁. ap₂ (λ (x y : ℕ). x * y) (of.coefficients r (omega arith))
+        (generator_rows_at m r i (omega (arith, range.m_most)) (in_row h m l range used i inside))))
 
-  pub held_symbols : (n : ℕ) → n ≡ carriers m →
-      list_below n (symbol_of g p c m q s) ≡ list_below (carriers m) (lifted_at h m l (lift * half_turn h))
-  held_symbols n e =
-      rw (e, held.rows, held.steps, held.base, held.lifted)
-      (list_below_cong (carriers m) _ _
-      (λ i h₁. symbol_is h m l held.range held.used i h₁ c held.coefficients (lift * half_turn h)))
+    first_is : step_at f i 0 ≡ digit m i (head_of (path h m l range used))
+    first_is =
+        step_is 0 (omega (arith, range.m_least)) ∙ ap (digit m i) (sym (head_of_at (path h m l range used)))
+
+    symbol_is : symbol_of f i ≡ lifted_at h m l (lift * half_turn h) i
+    unfolding symbol_of lifted_at
+    symbol_is =
+        rw (of.base, of.lifted, form_at_rows h m l i, phases_by_two h range.h_least, links_is, linear_is, first_is)
+
+  -- so its symbols are those of the lifted word
+  pub symbols_are : (n : ℕ) → n ≡ carriers m →
+      list_below n (symbol_of f) ≡ list_below (carriers m) (lifted_at h m l (lift * half_turn h))
+  symbols_are n e = rw e (list_below_cong (carriers m) _ _ (λ i h₁. symbol_is i h₁))
 
 -- the two lifts: the word and its partner
 lifted_at_zero : (h m l i : ℕ) → lifted_at h m l (0 * half_turn h) i ≡ word_at h m l i

@@ -2,6 +2,7 @@
 pub mod Bounds
 pub mod Matrix
 pub mod Divide
-pub mod Formula
 pub mod SentLaws
 pub mod Unique
+pub mod FromFn
+pub mod Formula

@@ -25,21 +25,12 @@ generator_rows m = list_below (suc greatest_m) (λ r. list_below (carriers great
 abbrev pub cell : List (List ℕ) → ℕ → ℕ → ℕ
 cell g r i = get_or (get_or g r []) i 0
 
-unfoldable pub linear_of : List (List ℕ) → List ℕ → ℕ → ℕ → ℕ
-linear_of g c m i = sum_below (m + 1) (λ r. get_or c r 0 * cell g r i)
-
-unfoldable pub links_of : List (List ℕ) → List ℕ → ℕ → ℕ → ℕ
-links_of g p m i = sum_below (m - 1) (λ k. cell g (get_or p k 0) i * cell g (get_or p (k + 1) 0) i)
-
-unfoldable pub symbol_of : List (List ℕ) → List ℕ → List ℕ → ℕ → ℕ → ℕ → ℕ → ℕ
-symbol_of g p c m q s i = (q / 2 * links_of g p m i + linear_of g c m i + s * cell g (get_or p 0 0) i) % q
-
 unfoldable pub lifted_at : ℕ → ℕ → ℕ → ℕ → ℕ → ℕ
 lifted_at h m l s i = (form_at h m l i + s * digit m i (head_of (path_at m (label_path h m l)))) % phases h
 
 pub record Split (h m l : ℕ) (t : Parts) : Type 0 where
   pub path : t.path.0 ≡ label_path h m l
-  pub rows : (r : ℕ) → r ≤ m → get_or t.c r 0 ≡ row_coefficient h m l r
+  pub rows : (r : ℕ) → r ≤ m → get_or t.coefficients r 0 ≡ row_coefficient h m l r
 
 -- the rows hold digits
 pub record Cells (m : ℕ) (g : List (List ℕ)) : Type 0 where
@@ -54,11 +45,3 @@ pub record Small (m : ℕ) (c : List ℕ) : Type 0 where
 pub record Walk (m : ℕ) (p : List ℕ) : Type 0 where
   pub least : 2 ≤ m
   pub steps : (k : ℕ) → k < m → get_or p k 0 ≤ m
-
-pub record Bounded (m q s : ℕ) (g : List (List ℕ)) (p c : List ℕ) : Type 0 where
-  pub cells : Cells m g
-  pub small : Small m c
-  pub walk : Walk m p
-  pub least : 2 ≤ q
-  pub most : q ≤ phases greatest_h
-  pub lift : s ≤ half_turn greatest_h
