@@ -25,9 +25,10 @@ use Rattle.words.proofs.Used.{label_path_is_path}
 use Rattle.words.proofs.Partners.{head_of_at}
 use Rattle.steps.specs.PathSteps.{path_row}
 use Rattle.encoder.specs.declared.Form.{Form}
-use Rattle.encoder.specs.Arrays.{generator_rows, cell, lifted_at, Small, Walk}
+use Rattle.encoder.specs.Arrays.{generator_rows, cell, lifted_at}
 use Rattle.encoder.specs.Forms.{step_at, linear_of, links_of, symbol_of}
-use Rattle.encoder.proofs.Matrix.{generator_at_digit, generator_rows_at, generator_rows_cells}
+use Rattle.encoder.proofs.Bounds.{range_of}
+use Rattle.encoder.proofs.Matrix.{generator_at_digit, generator_rows_at}
 
 -- the links of a path as a sum over its steps
 links_cons : (x : ℕ → ℕ) (a : ℕ) (p : List ℕ) →
@@ -60,8 +61,9 @@ module _ (h m l : ℕ) (range : InRange h m) (used : l < labels h m) where
   step_in : (k : ℕ) → k < m → (1 ≤ get_or path k 0) × (get_or path k 0 ≤ m)
   step_in k h₁ = is_path_in m path path_is k (omega (arith, path_is.long))
 
-  pub walk : Walk m (path_row m (label_path h m l))
-  walk = record { least = range.m_least; steps = λ k h₁. omega (arith, row_step k h₁, (step_in k h₁).1) }
+  -- each names a row
+  pub row_step_le : (k : ℕ) → k < m → get_or (path_row m (label_path h m l)) k 0 ≤ m
+  row_step_le k h₁ = omega (arith, row_step k h₁, (step_in k h₁).1)
 
   module _ (i : ℕ) (inside : i < carriers m) where
     in_row : i < carriers greatest_m
@@ -75,54 +77,66 @@ module _ (h m l : ℕ) (range : InRange h m) (used : l < labels h m) where
         ∙ generator_rows_at m (get_or path k 0) i (omega (arith, (step_in k h₁).1, range.m_most)) in_row
         ∙ generator_at_digit m (get_or path k 0) i (step_in k h₁).0
 
-row_coefficient_lt : (h m l r : ℕ) → row_coefficient h m l r < phases h
+pub row_coefficient_lt : (h m l r : ℕ) → row_coefficient h m l r < phases h
 unfolding row_coefficient
 row_coefficient_lt h m l zero = constant_lt h l
 row_coefficient_lt h m l (suc r) = coefficient_lt h m l (suc r)
 
--- the form that the code makes of label l and a lift of so many half turns
-pub record IsFormOf (h m l lift : ℕ) (f : Form) : Type 0 where
-  pub count : f.m ≡ m
-  pub base : f.q ≡ phases h
-  pub rows : f.generator ≡ generator_rows m
-  pub steps : f.steps ≡ path_row m (label_path h m l)
-  pub coefficients : (r : ℕ) → r ≤ m → get_or f.coefficients r 0 ≡ row_coefficient h m l r
-  pub lifted : f.lift ≡ lift * half_turn h
+-- a form of label l, and of so many half turns
+pub record IsFormOf (l lift : ℕ) (f : Form) : Type 0 where
+  pub used : l < labels f.shape.h f.shape.m
+  pub generated : f.generator ≡ generator_rows f.shape.m
+  pub walked : f.steps ≡ path_row f.shape.m (label_path f.shape.h f.shape.m l)
+  pub split : (r : ℕ) → r ≤ f.shape.m → get_or f.coefficients r 0 ≡ row_coefficient f.shape.h f.shape.m l r
+  pub turned : f.lift ≡ lift * half_turn f.shape.h
 
-module _ (h m l lift : ℕ) (f : Form) (range : InRange h m) (used : l < labels h m) (of : IsFormOf h m l lift f) where
+module _ (l lift : ℕ) (f : Form) (of : IsFormOf l lift f) where
+  abbrev h : ℕ
+  h = f.shape.h
+
+  abbrev m : ℕ
+  m = f.shape.m
+
+  abbrev range : InRange h m
+  range = range_of f
+
+  abbrev own : List ℕ
+  own = path h m l range of.used
+
   module _ (i : ℕ) (inside : i < carriers m) where
-    step_is : (k : ℕ) → k < m → step_at f i k ≡ digit m i (get_or (path h m l range used) k 0)
-    step_is k h₁ = rw (of.rows, of.steps) (step_digit h m l range used i inside k h₁)
+    step_is : (k : ℕ) → k < m → step_at f i k ≡ digit m i (get_or own k 0)
+    step_is k h₁ =
+        ap₂ (λ (g : List (List ℕ)) (p : List ℕ). cell g (get_or p k 0) i) of.generated of.walked
+        ∙ step_digit h m l range of.used i inside k h₁
 
-    links_is : links_of f i ≡ links (digit m i) (path h m l range used)
+    links_is : links_of f i ≡ links (digit m i) own
     unfolding links_of
     links_is =
-        rw of.count
-        (sum_below_cong (m - 1) _ (λ k. digit m i (get_or (path h m l range used) k 0) * digit m i (get_or (path h m l range used) (k + 1) 0))
+        sum_below_cong (m - 1) _ (λ k. digit m i (get_or own k 0) * digit m i (get_or own (k + 1) 0))
         (λ k h₁. ap₂ (λ (x y : ℕ). x * y) (step_is k (omega arith)) (step_is (k + 1) (omega arith)))
-        ∙ sym (links_sum (digit m i) (m - 1) (path h m l range used) (omega (arith, (path_is h m l range used).long, range.m_least))))
+        ∙ sym (links_sum (digit m i) (m - 1) own (omega (arith, (path_is h m l range of.used).long, range.m_least)))
 
     linear_is : linear_of f i ≡ sum_below (m + 1) (λ r. row_coefficient h m l r * generator_at m r i)
     unfolding linear_of
     linear_is =
-        rw (of.count, of.rows)
-        (sum_below_cong (m + 1) _ (λ r. row_coefficient h m l r * generator_at m r i)
-        (λ r h₁. ap₂ (λ (x y : ℕ). x * y) (of.coefficients r (omega arith))
-        (generator_rows_at m r i (omega (arith, range.m_most)) (in_row h m l range used i inside))))
+        sum_below_cong (m + 1) _ (λ r. row_coefficient h m l r * generator_at m r i)
+        (λ r h₁. ap₂ (λ (x y : ℕ). x * y) (of.split r (omega arith))
+        (ap (λ (g : List (List ℕ)). cell g r i) of.generated
+        ∙ generator_rows_at m r i (omega (arith, range.m_most)) (in_row h m l range of.used i inside)))
 
-    first_is : step_at f i 0 ≡ digit m i (head_of (path h m l range used))
-    first_is =
-        step_is 0 (omega (arith, range.m_least)) ∙ ap (digit m i) (sym (head_of_at (path h m l range used)))
+    first_is : step_at f i 0 ≡ digit m i (head_of own)
+    first_is = step_is 0 (omega (arith, range.m_least)) ∙ ap (digit m i) (sym (head_of_at own))
 
-    symbol_is : symbol_of f i ≡ lifted_at h m l (lift * half_turn h) i
+    symbol_is : symbol_of f i ≡ lifted_at h m l f.lift i
     unfolding symbol_of lifted_at
-    symbol_is =
-        rw (of.base, of.lifted, form_at_rows h m l i, phases_by_two h range.h_least, links_is, linear_is, first_is)
+    symbol_is = rw (form_at_rows h m l i, links_is, linear_is, first_is)
 
   -- so its symbols are those of the lifted word
   pub symbols_are : (n : ℕ) → n ≡ carriers m →
       list_below n (symbol_of f) ≡ list_below (carriers m) (lifted_at h m l (lift * half_turn h))
-  symbols_are n e = rw e (list_below_cong (carriers m) _ _ (λ i h₁. symbol_is i h₁))
+  symbols_are n e =
+      rw e (list_below_cong (carriers m) (symbol_of f) (lifted_at h m l f.lift) symbol_is)
+      ∙ ap (λ (s : ℕ). list_below (carriers m) (lifted_at h m l s)) of.turned
 
 -- the two lifts: the word and its partner
 lifted_at_zero : (h m l i : ℕ) → lifted_at h m l (0 * half_turn h) i ≡ word_at h m l i

@@ -31,17 +31,3 @@ lifted_at h m l s i = (form_at h m l i + s * digit m i (head_of (path_at m (labe
 pub record Split (h m l : ℕ) (t : Parts) : Type 0 where
   pub path : t.path.0 ≡ label_path h m l
   pub rows : (r : ℕ) → r ≤ m → get_or t.coefficients r 0 ≡ row_coefficient h m l r
-
--- the rows hold digits
-pub record Cells (m : ℕ) (g : List (List ℕ)) : Type 0 where
-  pub most : m ≤ greatest_m
-  pub cells : (r i : ℕ) → r ≤ m → i < carriers greatest_m → cell g r i ≤ 1
-
--- the coefficients are below the most phases
-pub record Small (m : ℕ) (c : List ℕ) : Type 0 where
-  pub small : (r : ℕ) → r ≤ m → get_or c r 0 < phases greatest_h
-
--- each step names a row
-pub record Walk (m : ℕ) (p : List ℕ) : Type 0 where
-  pub least : 2 ≤ m
-  pub steps : (k : ℕ) → k < m → get_or p k 0 ≤ m

@@ -3,10 +3,11 @@
 --           step_at f i k   the digit that step k + 1 names
 --           linear_of f i   the sum of the terms
 --           links_of f i    the sum over the links of digit times digit
---           symbol_of f i   both, with the lift times the digit of the first step, modulo q
+--           symbol_of f i   both, with the lift times the digit of the first step, modulo the phases
 -- Not here: what the arrays of a form hold (Arrays).  Assumes nothing: these are definitions.
-use Rattle.std.specs.Prelude.{ℕ, ◌+◌, ◌-◌, ◌*◌, ◌/◌, ◌%◌, get_or}
+use Rattle.std.specs.Prelude.{ℕ, ◌+◌, ◌-◌, ◌*◌, ◌%◌, get_or}
 use Rattle.range.specs.Below.{sum_below}
+use Rattle.rules.specs.Shape.{phases, half_turn}
 use Rattle.encoder.specs.Arrays.{cell}
 use Rattle.encoder.specs.declared.Form.{Form}
 
@@ -17,10 +18,11 @@ abbrev pub step_at : Form → ℕ → ℕ → ℕ
 step_at f i k = cell f.generator (get_or f.steps k 0) i
 
 unfoldable pub linear_of : Form → ℕ → ℕ
-linear_of f i = sum_below (f.m + 1) (term_at f i)
+linear_of f i = sum_below (f.shape.m + 1) (term_at f i)
 
 unfoldable pub links_of : Form → ℕ → ℕ
-links_of f i = sum_below (f.m - 1) (λ k. step_at f i k * step_at f i (k + 1))
+links_of f i = sum_below (f.shape.m - 1) (λ k. step_at f i k * step_at f i (k + 1))
 
 unfoldable pub symbol_of : Form → ℕ → ℕ
-symbol_of f i = (f.q / 2 * links_of f i + linear_of f i + f.lift * step_at f i 0) % f.q
+symbol_of f i =
+    (half_turn f.shape.h * links_of f i + linear_of f i + f.lift * step_at f i 0) % phases f.shape.h

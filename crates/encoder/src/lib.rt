@@ -3,19 +3,19 @@
 // place; the partner adds 2^(h-1) of row p(1). Contracts cite specs/Sent.antt, and for the steps specs/Arrays.antt.
 #![tactic(auto)]
 
-ghost use Rattle.std.specs.Prelude.{◌+◌, ◌-◌, ◌*◌, ◌%◌, ◌≤◌, ◌<◌, ◌≡◌, true, length};
+ghost use Rattle.std.specs.Prelude.{◌+◌, ◌-◌, ◌*◌, ◌%◌, ◌≤◌, ◌<◌, ◌≡◌, ℕ, length, slice_index};
 ghost use Rattle.range.specs.Below.{list_below};
-ghost use Rattle.rules.specs.Shape.{carriers, in_shape, phases, half_turn, greatest_h, greatest_m};
+ghost use Rattle.rules.specs.Shape.{carriers, phases, half_turn, greatest_h, greatest_m};
 ghost use Rattle.rules.specs.Place.{digit, generator_at};
 ghost use Rattle.rules.specs.Label.{labels, label_of};
 ghost use Rattle.rules.specs.Word.{word_of, partner_of};
-ghost use Rattle.encoder.specs.Arrays.{generator_rows, cell, lifted_at, Split, Cells, Small, Walk};
+ghost use Rattle.encoder.specs.Arrays.{generator_rows, cell, lifted_at, Split};
 ghost use Rattle.encoder.specs.Sent.{Sent};
 
 use std::array;
 
 use kinds::{Judged, MessageNumber, PathNumber, Refusal};
-use shape::{PLACES, ROWS, STEPS};
+use shape::{PLACES, ROWS, STEPS, Shape};
 
 // The answer of encode and partner.
 #[derive(Clone, Copy)]
@@ -57,42 +57,39 @@ fn send(h: u32, m: u32, message: MessageNumber, lift: u32, out: &mut [u8]) -> Wr
         return Written::Refused(why);
     }
     let label = shape::label_of(h, m, message);
-    fill(h, m, label, lift, out);
+    fill(Shape { h, m }, label, lift, out);
     Written::Done
 }
 
 // Writes the lifted word of a label, place by place.
-fn fill(h: u32, m: u32, label: u64, lift: u32, out: &mut [u8])
+fn fill(shape: Shape, label: u64, lift: u32, out: &mut [u8])
     requires lift_bound { lift ≤ 1 }
-    requires m_value { in_shape h m ≡ true }
-    requires label_bound { label < labels h m }
-    requires out_len { length out.old ≡ carriers m }
-    ensures { out.new ≡ list_below (carriers m) (lifted_at h m label (lift * half_turn h)) }
+    requires label_bound { label < labels shape.h shape.m }
+    requires out_len { length out.old ≡ carriers shape.m }
+    ensures { out.new ≡ list_below (carriers shape.m) (lifted_at shape.h shape.m label (lift * half_turn shape.h)) }
 {
-    let q = shape::power(h) as u32;
-    let parts = split(h, m, label);
-    let generator = generator(m);
-    let steps = steps::steps(m, parts.path);
+    let parts = split(shape, label);
+    let generator = generator(shape.m);
+    let steps = steps::steps(shape.m, parts.path);
     let coefficients = parts.coefficients;
-    let form = Form { m, q, generator, steps, coefficients, lift: lift * (q / 2) };
+    let lift = lift * shape.half_turn() as u32;
+    let form = Form { shape, generator, steps, coefficients, lift };
     form.write(out);
 }
 
 // What the symbols of a word are summed from: the generator, a row for each coefficient; the steps of the path; the
-// coefficients, c and then c_1 to c_m; and the lift, what the row of the first step is multiplied by. q is how many
-// phases there are. The ghost fields bound them, so that no sum wraps and no index lies outside.
+// coefficients, c and then c_1 to c_m; and the lift, what the row of the first step is multiplied by. The ghost fields
+// bound them, so that no sum wraps and no index lies outside.
 #[derive(Clone, Copy)]
 struct Form {
-    m: u32,
-    q: u32,
+    shape: Shape,
     generator: [[u8; PLACES]; ROWS],
     steps: [u8; STEPS],
     coefficients: [u32; ROWS],
     lift: u32,
-    ghost cells: { Cells m generator },
-    ghost small: { Small m coefficients },
-    ghost walk: { Walk m steps },
-    ghost phases: { (2 ≤ q) × (q ≤ phases greatest_h) },
+    ghost digits: { (r i : ℕ) → r ≤ shape.m → i < carriers greatest_m → cell generator r i ≤ 1 },
+    ghost small: { (r : ℕ) → r ≤ shape.m → slice_index coefficients r < phases greatest_h },
+    ghost rows: { (k : ℕ) → k < shape.m → slice_index steps k ≤ shape.m },
     ghost lifted: { lift ≤ half_turn greatest_h },
 }
 
@@ -109,16 +106,18 @@ impl Form {
         }
     }
 
-    // The symbol at place i: the links times q / 2, the rows times their coefficients, and the first step's row times
-    // the lift.
+    // The symbol at place i: the links times half the phases, the rows times their coefficients, and the first step's
+    // row times the lift.
     fn symbol(&self, i: usize) -> u8
         requires { i < carriers greatest_m }
         ensures { result ≡ symbol_of self.now i }
     {
+        let half = self.shape.half_turn() as u32;
+        let q = self.shape.phases() as u32;
         let links = self.links(i);
         let linear = self.linear(i);
         let first = self.digit(self.steps[0], i);
-        ((self.q / 2 * links + linear + self.lift * first) % self.q) as u8
+        ((half * links + linear + self.lift * first) % q) as u8
     }
 
     // The sum over the rows of the generator of coefficient times digit.
@@ -126,7 +125,7 @@ impl Form {
         requires { i < carriers greatest_m }
         ensures { result ≡ linear_of self.now i }
     {
-        let n = self.m as usize + 1;
+        let n = self.shape.m as usize + 1;
         let mut sum = 0;
         for (c, row) in self.coefficients[..n].iter().zip(&self.generator) {
             sum += c * u32::from(row[i]);
@@ -139,7 +138,7 @@ impl Form {
         requires { i < carriers greatest_m }
         ensures { result ≡ links_of self.now i }
     {
-        let n = self.m as usize;
+        let n = self.shape.m as usize;
         let mut sum = 0;
         for link in self.steps[..n].windows(2) {
             sum += self.digit(link[0], i) * self.digit(link[1], i);
@@ -179,16 +178,15 @@ fn digits(m: u32, r: usize) -> [u8; PLACES]
 }
 
 // The label taken apart, c first: each division by 2^h leaves what stands above.
-fn split(h: u32, m: u32, label: u64) -> Parts
-    requires m_value { in_shape h m ≡ true }
-    requires label_bound { label < labels h m }
-    ensures { Split h m label result }
+fn split(shape: Shape, label: u64) -> Parts
+    requires { label < labels shape.h shape.m }
+    ensures { Split shape.h shape.m label result }
 {
-    let q = shape::power(h);
+    let q = shape.phases();
     let mut coefficients = [0; ROWS];
     coefficients[0] = (label % q) as u32;
     let mut rest = label / q;
-    for r in (1..=m as usize).rev() {
+    for r in (1..=shape.m as usize).rev() {
         coefficients[r] = (rest % q) as u32;
         rest /= q;
     }

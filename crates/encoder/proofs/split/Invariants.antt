@@ -4,4 +4,4 @@ use Rattle.encoder.proofs.Divide.{Divided}
 use Rattle.encoder.proofs.split.Given as goal
 
 abbrev pub invariant-loop-r : goal.invariant-loop-r
-invariant-loop-r l = Divided l.h l.m l.label l.q l.r l.rest l.coefficients
+invariant-loop-r l = Divided l.fn.shape.h l.fn.shape.m l.label l.q l.r l.rest l.coefficients

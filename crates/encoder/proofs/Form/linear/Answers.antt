@@ -13,7 +13,7 @@ use Rattle.range.specs.Below.{sum_below}
 use Rattle.range.proofs.Sums.{sum_below_turn}
 use Rattle.rules.specs.Shape.{greatest_m}
 use Rattle.encoder.specs.Forms.{term_at, linear_of}
-use Rattle.encoder.proofs.Bounds.{term_le, terms_le, most_term, most_linear}
+use Rattle.encoder.proofs.Bounds.{range_of, term_le, terms_le, most_term, most_linear}
 use Rattle.encoder.proofs.Form.linear.Goals.{After-from}
 use Rattle.encoder.proofs.Form.linear.Goals as goal
 
@@ -21,12 +21,12 @@ use Rattle.encoder.proofs.Form.linear.Goals as goal
 abbrev row : After-from → ℕ
 row c = length c.loop-c.yielded
 
-turn : (c : After-from) → (row c ≤ c.args.self.now.m) × (c.in-Some.c.now * c.from.result ≡ term_at c.args.self.now c.args.i (row c))
+turn : (c : After-from) → (row c ≤ c.args.self.now.shape.m) × (c.in-Some.c.now * c.from.result ≡ term_at c.args.self.now c.args.i (row c))
 turn c =
     let f = c.args.self.now in
-    let t = zip_turn (take (f.m + 1) f.coefficients) f.generator c.loop-c.yielded _ c.loop-c.c-iterator c.next.new.self _
+    let t = zip_turn (take (f.shape.m + 1) f.coefficients) f.generator c.loop-c.yielded _ c.loop-c.c-iterator c.next.new.self _
     (search rules) (search rules) c.loop-c.yielded_by _ c.in-Some.is c.next.ensures.steps in
-    let inside : row c < f.m + 1 = omega (arith, t.0, length-take (f.m + 1) f.coefficients) in
+    let inside : row c < f.shape.m + 1 = omega (arith, t.0, length-take (f.shape.m + 1) f.coefficients) in
     (omega (arith, inside), ap₂ (λ (x y : ℕ). x * y) (t.2 0 ∙ get_or-take _ _ _ _ inside) (c.from.ensures ∙ ap (λ (r : List ℕ). get_or r c.args.i 0) (t.3 [])))
 
 -- its term is small, and what is added up so far
@@ -35,7 +35,7 @@ bounds c =
     let f = c.args.self.now in
     let t = turn c in (
       omega (arith, t.1, term_le f c.args.i c.requires (row c) t.0),
-      omega (arith, c.loop-c.invariant, terms_le f c.args.i c.requires (row c) (omega (arith, t.0)), t.0, f.cells.most),
+      omega (arith, c.loop-c.invariant, terms_le f c.args.i c.requires (row c) (omega (arith, t.0)), t.0, (range_of f).m_most),
     )
 
 pub loop-c-init : goal.loop-c-init
@@ -56,8 +56,8 @@ pub returns : goal.returns
 unfolding linear_of
 returns c =
     let f = c.args.self.now in
-    let e = zip_end (take (f.m + 1) f.coefficients) f.generator c.loop-c.yielded _ c.loop-c.c-iterator c.next.new.self _
+    let e = zip_end (take (f.shape.m + 1) f.coefficients) f.generator c.loop-c.yielded _ c.loop-c.c-iterator c.next.new.self _
     (search rules) (search rules) c.loop-c.yielded_by c.in-None.is c.next.ensures.steps in
     let wide : length f.coefficients ≡ greatest_m + 1 = search rules in
     let high : length f.generator ≡ greatest_m + 1 = search rules in
-    c.loop-c.invariant ∙ ap (λ (n : ℕ). sum_below n (term_at f c.args.i)) (omega (arith, e, wide, high, length-take (f.m + 1) f.coefficients, f.cells.most))
+    c.loop-c.invariant ∙ ap (λ (n : ℕ). sum_below n (term_at f c.args.i)) (omega (arith, e, wide, high, length-take (f.shape.m + 1) f.coefficients, (range_of f).m_most))

@@ -16,14 +16,14 @@ use Rattle.rules.specs.Shape.{greatest_m}
 use Rattle.encoder.specs.declared.Form.{Form}
 use Rattle.encoder.specs.Arrays.{cell}
 use Rattle.encoder.specs.Forms.{step_at, links_of}
-use Rattle.encoder.proofs.Bounds.{link_le, links_le, most_links}
+use Rattle.encoder.proofs.Bounds.{range_of, link_le, links_le, most_links}
 use Rattle.encoder.proofs.Form.links.Invariants.{path, Through}
 use Rattle.encoder.proofs.Form.links.Goals.{In-Some}
 use Rattle.encoder.proofs.Form.links.Goals as goal
 
 -- how many steps there are, and how many links are gone through
-path_long : (f : Form) → length f.steps ≡ greatest_m → length (path f) ≡ f.m
-path_long f e = length-take-le f.m f.steps (omega (arith, e, f.cells.most))
+path_long : (f : Form) → length f.steps ≡ greatest_m → length (path f) ≡ f.shape.m
+path_long f e = length-take-le f.shape.m f.steps (omega (arith, e, (range_of f).m_most))
 
 abbrev gone : In-Some → ℕ
 gone c = length (path c.args.self.now) - length (windows_rest c.loop-link.link-iterator)
@@ -33,7 +33,7 @@ module _ (c : In-Some) where
   abbrev form : Form
   form = c.args.self.now
 
-  long : length (path form) ≡ form.m
+  long : length (path form) ≡ form.shape.m
   long = path_long form (search rules)
 
   abbrev before : List ℕ
@@ -52,14 +52,14 @@ module _ (c : In-Some) where
       (omega (arith, t.pairs)) t.within t.left
 
   -- it holds the steps at both ends of the link
-  inside : gone c + 1 < form.m
+  inside : gone c + 1 < form.shape.m
   inside = omega (arith, long, taken.2, c.loop-link.invariant.pairs, c.loop-link.invariant.within)
 
   ends : (k : ℕ) → k < 2 → get_or c.in-Some.link.now k 0 ≡ get_or form.steps (gone c + k) 0
-  ends k h = taken.3 k 0 (omega (arith, h, c.loop-link.invariant.pairs)) ∙ get_or-take form.m form.steps (gone c + k) 0 (omega (arith, h, inside))
+  ends k h = taken.3 k 0 (omega (arith, h, c.loop-link.invariant.pairs)) ∙ get_or-take form.shape.m form.steps (gone c + k) 0 (omega (arith, h, inside))
 
   least : (k : ℕ) → k < 2 → get_or c.in-Some.link.now k 0 ≤ greatest_m
-  least k h = omega (arith, ends k h, form.walk.steps (gone c + k) (omega (arith, h, inside)), form.cells.most)
+  least k h = omega (arith, ends k h, form.rows (gone c + k) (omega (arith, h, inside)), (range_of form).m_most)
 
   -- what the link adds, and that it is small
   adds : (x y : ℕ) → x ≡ cell form.generator (get_or c.in-Some.link.now 0 0) c.args.i
@@ -80,7 +80,7 @@ module _ (c : In-Some) where
         c.loop-link.invariant.added,
         links_le form c.args.i c.requires (gone c) (omega (arith, inside)),
         inside,
-        form.cells.most,
+        (range_of form).m_most,
       )
 
 pub loop-link-init : goal.loop-link-init
@@ -93,7 +93,7 @@ loop-link-init c =
     omega (arith, ap length rest) in
     record {
       pairs = search rules;
-      some = omega (arith, ap length rest, e, f.walk.least);
+      some = omega (arith, ap length rest, e, (range_of f).m_least);
       within = omega (arith, ap length rest);
       left = rw none rest;
       added = rw none refl;

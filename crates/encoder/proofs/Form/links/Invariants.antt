@@ -13,7 +13,7 @@ use Rattle.encoder.specs.Forms.{step_at}
 use Rattle.encoder.proofs.Form.links.Given as goal
 
 abbrev pub path : Form → List ℕ
-path f = take f.m f.steps
+path f = take f.shape.m f.steps
 
 pub record Through (f : Form) (i size : ℕ) (rest : List ℕ) (sum : ℕ) : Type 0 where
   pub pairs : size ≡ 2
