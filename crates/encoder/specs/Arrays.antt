@@ -1,18 +1,13 @@
--- What the steps of the encoder compute, said of the arrays that they hold. Not 01's rules: proofs/Formula.antt ties
--- these to them.
+-- What the arrays of the encoder hold, and the lifted word. Not 01's rules: proofs/Formula.antt ties these to them.
 -- Defines:  generator_rows m     the generator as code holds it: a row for each coefficient of the greatest m, all
 --                                places
 --           cell g r i           row r of the array g at place i
---           linear_of, links_of  the sum over the rows, and over the links, at place i
---           symbol_of            both, with s times the row of the first step, modulo q
 --           lifted_at h m l s i  the formula plus s x_p(1), modulo 2^h: the word for s = 0, the partner for s = 2^(h-1)
 --           Split h m l t        the parts t of label l
---           Cells m g, Small m c, Walk m p  bounds on the arrays, so that no sum wraps and no index lies outside
---           Bounded m q s g p c  all three, and bounds on q and s
--- Assumes nothing: these are definitions.
-use Rattle.std.specs.Prelude.{ℕ, suc, ◌+◌, ◌-◌, ◌*◌, ◌/◌, ◌%◌, ◌≤◌, ◌<◌, ◌≡◌, List, [], get_or}
-use Rattle.range.specs.Below.{sum_below, list_below}
-use Rattle.rules.specs.Shape.{greatest_h, greatest_m, carriers, phases, half_turn}
+-- Not here: what is summed from them (Forms).  Assumes nothing: these are definitions.
+use Rattle.std.specs.Prelude.{ℕ, suc, ◌+◌, ◌*◌, ◌%◌, ◌≤◌, ◌≡◌, List, [], get_or}
+use Rattle.range.specs.Below.{list_below}
+use Rattle.rules.specs.Shape.{greatest_m, carriers, phases}
 use Rattle.rules.specs.Place.{digit, generator_at}
 use Rattle.rules.specs.Path.{head_of, path_at}
 use Rattle.rules.specs.Label.{label_path, row_coefficient}

@@ -1,6 +1,7 @@
 // Encode and partner: document 01 "What a logger may send" and "The partner and the pair check", 001 Corollary 4.
 // Both refuse 1, 2 and 4, in that order, and a refusal writes nothing. The rows of the generator are combined place by
-// place; the partner adds 2^(h-1) of row p(1). Contracts cite specs/Sent.antt, and for the steps specs/Arrays.antt.
+// place; the partner adds 2^(h-1) of row p(1). Contracts cite specs/Sent.antt, and for the steps specs/Arrays.antt and
+// specs/Forms.antt.
 #![tactic(auto)]
 
 ghost use Rattle.std.specs.Prelude.{◌+◌, ◌-◌, ◌*◌, ◌%◌, ◌≤◌, ◌<◌, ◌≡◌, ℕ, length, slice_index};
@@ -12,10 +13,9 @@ ghost use Rattle.rules.specs.Word.{word_of, partner_of};
 ghost use Rattle.encoder.specs.Arrays.{generator_rows, cell, lifted_at, Split};
 ghost use Rattle.encoder.specs.Sent.{Sent};
 
-use std::array;
-
 use kinds::{Judged, MessageNumber, PathNumber, Refusal};
 use shape::{PLACES, ROWS, STEPS, Shape};
+use std::array;
 
 // The answer of encode and partner.
 #[derive(Clone, Copy)]
@@ -68,12 +68,17 @@ fn fill(shape: Shape, label: u64, lift: u32, out: &mut [u8])
     requires out_len { length out.old ≡ carriers shape.m }
     ensures { out.new ≡ list_below (carriers shape.m) (lifted_at shape.h shape.m label (lift * half_turn shape.h)) }
 {
-    let parts = split(shape, label);
-    let generator = generator(shape.m);
-    let steps = steps::steps(shape.m, parts.path);
-    let coefficients = parts.coefficients;
+    let Parts { path, coefficients } = split(shape, label);
+    let generator = generator(shape);
+    let steps = steps::steps(shape.m, path);
     let lift = lift * shape.half_turn() as u32;
-    let form = Form { shape, generator, steps, coefficients, lift };
+    let form = Form {
+        shape,
+        generator,
+        steps,
+        coefficients,
+        lift,
+    };
     form.write(out);
 }
 
@@ -156,25 +161,30 @@ impl Form {
 }
 
 // The generator: the all-ones row, then the rows x_1 to x_m.
-fn generator(m: u32) -> [[u8; PLACES]; ROWS]
-    requires { m ≤ greatest_m }
-    ensures { result ≡ generator_rows m }
+fn generator(shape: Shape) -> [[u8; PLACES]; ROWS]
+    ensures { result ≡ generator_rows shape.m }
 {
     array::from_fn(
-        |r: usize| -> [u8; PLACES]
-            requires { (m ≤ greatest_m) × (r ≤ greatest_m) }
-            ensures { result ≡ list_below (carriers greatest_m) (generator_at m r) }
-        { if r == 0 { [1; PLACES] } else { digits(m, r) } },
+        |r|
+            requires { r ≤ greatest_m }
+            ensures { result ≡ list_below (carriers greatest_m) (generator_at shape.m r) }
+        {
+            if r == 0 {
+                [1; PLACES]
+            } else {
+                digits(shape, r)
+            }
+        },
     )
 }
 
 // The row x_r: the digit x_r of each place, x_1 the most significant of m.
-fn digits(m: u32, r: usize) -> [u8; PLACES]
-    requires { (m ≤ greatest_m) × (r ≤ greatest_m) }
-    ensures { result ≡ list_below (carriers greatest_m) (λ i. digit m i r) }
+fn digits(shape: Shape, r: usize) -> [u8; PLACES]
+    requires { r ≤ greatest_m }
+    ensures { result ≡ list_below (carriers greatest_m) (λ i. digit shape.m i r) }
 {
-    let e = (m as usize).saturating_sub(r);
-    array::from_fn(|i: usize| -> u8 { ((i >> e) % 2) as u8 })
+    let e = (shape.m as usize).saturating_sub(r);
+    array::from_fn(|i| ((i >> e) % 2) as u8)
 }
 
 // The label taken apart, c first: each division by 2^h leaves what stands above.
@@ -190,5 +200,8 @@ fn split(shape: Shape, label: u64) -> Parts
         coefficients[r] = (rest % q) as u32;
         rest /= q;
     }
-    Parts { path: PathNumber(rest as u32), coefficients }
+    Parts {
+        path: PathNumber(rest as u32),
+        coefficients,
+    }
 }

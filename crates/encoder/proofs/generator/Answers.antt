@@ -12,5 +12,5 @@ use Rattle.encoder.proofs.generator.Goals as goal
 pub returns : goal.returns
 unfolding generator_rows
 returns c =
-    made_is _ (λ r. list_below (carriers greatest_m) (generator_at c.args.m r)) _ (λ i y u k. search rules) [] _ _
+    made_is _ (λ r. list_below (carriers greatest_m) (generator_at c.args.shape.m r)) _ (λ i y u k. search rules) [] _ _
     c.from_fn.ensures.items

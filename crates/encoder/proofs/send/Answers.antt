@@ -35,7 +35,7 @@ fill-requires c =
     record {
       lift_bound = c.requires;
       label_bound = subst (λ (l : ℕ). l < labels c.args.h c.args.m) (sym (label_is t))
-      (label_of_lt c.args.h c.args.m c.args.message.0 (taken t).message);
+          (label_of_lt c.args.h c.args.m c.args.message.0 (taken t).message);
       out_len = (taken t).long;
     }
 

@@ -12,4 +12,4 @@ unfolding generator_at list_below
 returns-then-r-eq0 c = rw c.if-r-eq0.true refl
 
 pub returns-else-r-eq0 : goal.returns-else-r-eq0
-returns-else-r-eq0 c = c.digits.ensures ∙ generator_row c.captures.m c.args.r _ (omega (arith, c.if-r-eq0.false))
+returns-else-r-eq0 c = c.digits.ensures ∙ generator_row c.captures.shape.m c.args.r _ (omega (arith, c.if-r-eq0.false))
