@@ -98,6 +98,13 @@ struct Form {
     ghost lifted: { lift ≤ half_turn greatest_h },
 }
 
+// A column of the generator: a place of the longest word.
+#[derive(Clone, Copy)]
+struct Column {
+    place: usize,
+    ghost inside: { place < carriers greatest_m },
+}
+
 impl Form {
     ghost use Rattle.encoder.specs.Forms.{linear_of, links_of, symbol_of};
 
@@ -106,57 +113,54 @@ impl Form {
         requires { length out.old ≤ carriers greatest_m }
         ensures { out.new ≡ list_below (length out.old) (symbol_of self) }
     {
-        for (i, symbol) in out.iter_mut().enumerate() {
-            *symbol = self.symbol(i);
+        for (place, symbol) in out.iter_mut().enumerate() {
+            *symbol = self.symbol(Column { place });
         }
     }
 
-    // The symbol at place i: the links times half the phases, the rows times their coefficients, and the first step's
+    // The symbol at a place: the links times half the phases, the rows times their coefficients, and the first step's
     // row times the lift.
-    fn symbol(&self, i: usize) -> u8
-        requires { i < carriers greatest_m }
-        ensures { result ≡ symbol_of self.now i }
+    fn symbol(&self, at: Column) -> u8
+        ensures { result ≡ symbol_of self.now at.place }
     {
         let half = self.shape.half_turn() as u32;
         let q = self.shape.phases() as u32;
-        let links = self.links(i);
-        let linear = self.linear(i);
-        let first = self.digit(self.steps[0], i);
+        let links = self.links(at);
+        let linear = self.linear(at);
+        let first = self.digit(self.steps[0], at);
         ((half * links + linear + self.lift * first) % q) as u8
     }
 
     // The sum over the rows of the generator of coefficient times digit.
-    fn linear(&self, i: usize) -> u32
-        requires { i < carriers greatest_m }
-        ensures { result ≡ linear_of self.now i }
+    fn linear(&self, at: Column) -> u32
+        ensures { result ≡ linear_of self.now at.place }
     {
         let n = self.shape.m as usize + 1;
         let mut sum = 0;
         for (c, row) in self.coefficients[..n].iter().zip(&self.generator) {
-            sum += c * u32::from(row[i]);
+            sum += c * u32::from(row[at.place]);
         }
         sum
     }
 
     // The sum over the links of the path of digit times digit.
-    fn links(&self, i: usize) -> u32
-        requires { i < carriers greatest_m }
-        ensures { result ≡ links_of self.now i }
+    fn links(&self, at: Column) -> u32
+        ensures { result ≡ links_of self.now at.place }
     {
         let n = self.shape.m as usize;
         let mut sum = 0;
         for link in self.steps[..n].windows(2) {
-            sum += self.digit(link[0], i) * self.digit(link[1], i);
+            sum += self.digit(link[0], at) * self.digit(link[1], at);
         }
         sum
     }
 
-    // The digit that a step names, at place i.
-    fn digit(&self, step: u8, i: usize) -> u32
-        requires { (step ≤ greatest_m) × (i < carriers greatest_m) }
-        ensures { result ≡ cell self.now.generator step i }
+    // The digit that a step names.
+    fn digit(&self, step: u8, at: Column) -> u32
+        requires { step ≤ greatest_m }
+        ensures { result ≡ cell self.now.generator step at.place }
     {
-        u32::from(self.generator[usize::from(step)][i])
+        u32::from(self.generator[usize::from(step)][at.place])
     }
 }
 

@@ -21,21 +21,21 @@ use Rattle.encoder.proofs.Form.linear.Goals as goal
 abbrev row : After-from → ℕ
 row c = length c.loop-c.yielded
 
-turn : (c : After-from) → (row c ≤ c.args.self.now.shape.m) × (c.in-Some.c.now * c.from.result ≡ term_at c.args.self.now c.args.i (row c))
+turn : (c : After-from) → (row c ≤ c.args.self.now.shape.m) × (c.in-Some.c.now * c.from.result ≡ term_at c.args.self.now c.args.at.place (row c))
 turn c =
     let f = c.args.self.now in
     let t = zip_turn (take (f.shape.m + 1) f.coefficients) f.generator c.loop-c.yielded _ c.loop-c.c-iterator c.next.new.self _
     (search rules) (search rules) c.loop-c.yielded_by _ c.in-Some.is c.next.ensures.steps in
     let inside : row c < f.shape.m + 1 = omega (arith, t.0, length-take (f.shape.m + 1) f.coefficients) in
-    (omega (arith, inside), ap₂ (λ (x y : ℕ). x * y) (t.2 0 ∙ get_or-take _ _ _ _ inside) (c.from.ensures ∙ ap (λ (r : List ℕ). get_or r c.args.i 0) (t.3 [])))
+    (omega (arith, inside), ap₂ (λ (x y : ℕ). x * y) (t.2 0 ∙ get_or-take _ _ _ _ inside) (c.from.ensures ∙ ap (λ (r : List ℕ). get_or r c.args.at.place 0) (t.3 [])))
 
 -- its term is small, and what is added up so far
 bounds : (c : After-from) → (c.in-Some.c.now * c.from.result ≤ most_term) × (c.loop-c.sum ≤ most_linear)
 bounds c =
     let f = c.args.self.now in
     let t = turn c in (
-      omega (arith, t.1, term_le f c.args.i c.requires (row c) t.0),
-      omega (arith, c.loop-c.invariant, terms_le f c.args.i c.requires (row c) (omega (arith, t.0)), t.0, (range_of f).m_most),
+      omega (arith, t.1, term_le f c.args.at.place c.args.at.inside (row c) t.0),
+      omega (arith, c.loop-c.invariant, terms_le f c.args.at.place c.args.at.inside (row c) (omega (arith, t.0)), t.0, (range_of f).m_most),
     )
 
 pub loop-c-init : goal.loop-c-init
@@ -60,4 +60,4 @@ returns c =
     (search rules) (search rules) c.loop-c.yielded_by c.in-None.is c.next.ensures.steps in
     let wide : length f.coefficients ≡ greatest_m + 1 = search rules in
     let high : length f.generator ≡ greatest_m + 1 = search rules in
-    c.loop-c.invariant ∙ ap (λ (n : ℕ). sum_below n (term_at f c.args.i)) (omega (arith, e, wide, high, length-take (f.shape.m + 1) f.coefficients, (range_of f).m_most))
+    c.loop-c.invariant ∙ ap (λ (n : ℕ). sum_below n (term_at f c.args.at.place)) (omega (arith, e, wide, high, length-take (f.shape.m + 1) f.coefficients, (range_of f).m_most))

@@ -7,4 +7,4 @@ use Rattle.encoder.specs.Forms.{term_at}
 use Rattle.encoder.proofs.Form.linear.Given as goal
 
 abbrev pub invariant-loop-c : goal.invariant-loop-c
-invariant-loop-c l = l.sum ≡ sum_below (length l.yielded) (term_at l.self l.i)
+invariant-loop-c l = l.sum ≡ sum_below (length l.yielded) (term_at l.self l.at.place)

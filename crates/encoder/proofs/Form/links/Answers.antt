@@ -62,23 +62,23 @@ module _ (c : In-Some) where
   least k h = omega (arith, ends k h, form.rows (gone c + k) (omega (arith, h, inside)), (range_of form).m_most)
 
   -- what the link adds, and that it is small
-  adds : (x y : ℕ) → x ≡ cell form.generator (get_or c.in-Some.link.now 0 0) c.args.i
-      → y ≡ cell form.generator (get_or c.in-Some.link.now 1 0) c.args.i
-      → x * y ≡ step_at form c.args.i (gone c) * step_at form c.args.i (gone c + 1)
+  adds : (x y : ℕ) → x ≡ cell form.generator (get_or c.in-Some.link.now 0 0) c.args.at.place
+      → y ≡ cell form.generator (get_or c.in-Some.link.now 1 0) c.args.at.place
+      → x * y ≡ step_at form c.args.at.place (gone c) * step_at form c.args.at.place (gone c + 1)
   adds x y p q =
       ap₂ (λ (a b : ℕ). a * b)
-      (p ∙ ap (λ (k : ℕ). cell form.generator k c.args.i) (ends 0 (omega arith) ∙ ap (λ (k : ℕ). get_or form.steps k 0) (add-zero (gone c))))
-      (q ∙ ap (λ (k : ℕ). cell form.generator k c.args.i) (ends 1 (omega arith)))
+      (p ∙ ap (λ (k : ℕ). cell form.generator k c.args.at.place) (ends 0 (omega arith) ∙ ap (λ (k : ℕ). get_or form.steps k 0) (add-zero (gone c))))
+      (q ∙ ap (λ (k : ℕ). cell form.generator k c.args.at.place) (ends 1 (omega arith)))
 
-  added_le : step_at form c.args.i (gone c) * step_at form c.args.i (gone c + 1) ≤ 1
-  added_le = link_le form c.args.i c.requires (gone c) (omega (arith, inside))
+  added_le : step_at form c.args.at.place (gone c) * step_at form c.args.at.place (gone c + 1) ≤ 1
+  added_le = link_le form c.args.at.place c.args.at.inside (gone c) (omega (arith, inside))
 
   sum_le : c.loop-link.sum ≤ most_links
   sum_le =
       omega (
         arith,
         c.loop-link.invariant.added,
-        links_le form c.args.i c.requires (gone c) (omega (arith, inside)),
+        links_le form c.args.at.place c.args.at.inside (gone c) (omega (arith, inside)),
         inside,
         (range_of form).m_most,
       )
@@ -100,7 +100,7 @@ loop-link-init c =
     }
 
 pub digit-requires-in-loop-link : goal.digit-requires-in-loop-link
-digit-requires-in-loop-link c = (least (goal.at.digit-requires-in-loop-link c).In-Some 1 (omega arith), c.requires)
+digit-requires-in-loop-link c = least (goal.at.digit-requires-in-loop-link c).In-Some 1 (omega arith)
 
 pub overflow_mul-sum : goal.overflow_mul-sum
 overflow_mul-sum c =
@@ -133,5 +133,5 @@ returns c =
     let f = c.args.self.now in
     let e = path_long f (search rules) in
     let v = c.loop-link.invariant in
-    v.added ∙ ap (λ (n : ℕ). sum_below n (λ k. step_at f c.args.i k * step_at f c.args.i (k + 1)))
+    v.added ∙ ap (λ (n : ℕ). sum_below n (λ k. step_at f c.args.at.place k * step_at f c.args.at.place (k + 1)))
     (omega (arith, e, c.in-None.ensures.steps.1.0, v.pairs, v.some, v.within))

@@ -23,4 +23,4 @@ pub record Through (f : Form) (i size : ℕ) (rest : List ℕ) (sum : ℕ) : Typ
   pub added : sum ≡ sum_below (length (path f) - length rest) (λ k. step_at f i k * step_at f i (k + 1))
 
 abbrev pub invariant-loop-link : goal.invariant-loop-link
-invariant-loop-link l = Through l.self l.i (windows_size l.link-iterator) (windows_rest l.link-iterator) l.sum
+invariant-loop-link l = Through l.self l.at.place (windows_size l.link-iterator) (windows_rest l.link-iterator) l.sum

@@ -17,10 +17,10 @@ small : (c : After-digit-first) → let f = c.args.self.now in
 small c =
     let f = c.args.self.now in (
       mul-le-mul {n₁ = c.half_turn-half.result} {m₁ = c.links-links.result} {n₂ = half_turn greatest_h} {m₂ = most_links}
-          (omega (arith, c.half_turn-half.ensures, half_turn_most f)) (omega (arith, c.links-links.ensures, links_of_le f c.args.i c.requires)),
-      omega (arith, c.linear-linear.ensures, linear_of_le f c.args.i c.requires),
+          (omega (arith, c.half_turn-half.ensures, half_turn_most f)) (omega (arith, c.links-links.ensures, links_of_le f c.args.at.place c.args.at.inside)),
+      omega (arith, c.linear-linear.ensures, linear_of_le f c.args.at.place c.args.at.inside),
       mul-le-mul {n₁ = f.lift} {m₁ = c.digit-first.result} {n₂ = half_turn greatest_h} {m₂ = 1} f.lifted
-          (omega (arith, c.digit-first.ensures, first_le f c.args.i c.requires)),
+          (omega (arith, c.digit-first.ensures, first_le f c.args.at.place c.args.at.inside)),
     )
 
 pub overflow_mul-result : goal.overflow_mul-result

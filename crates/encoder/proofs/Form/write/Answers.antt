@@ -5,11 +5,11 @@ use mathlib.Core.Path.{refl}
 use Rattle.range.proofs.Filled.{filled_zero, filled_turn, filled_end}
 use Rattle.encoder.proofs.Form.write.Goals as goal
 
-pub loop-i-init : goal.loop-i-init
-loop-i-init c = filled_zero _ _
+pub loop-place-init : goal.loop-place-init
+loop-place-init c = filled_zero _ _
 
-pub loop-i-preserved : goal.loop-i-preserved
-loop-i-preserved c = filled_turn c.loop-i.i _ _ _ _ c.loop-i-test.true c.loop-i.invariant c.symbol.ensures
+pub loop-place-preserved : goal.loop-place-preserved
+loop-place-preserved c = filled_turn c.loop-place.place _ _ _ _ c.loop-place-test.true c.loop-place.invariant c.symbol.ensures
 
 pub returns : goal.returns
-returns c = filled_end _ c.loop-i.i _ _ _ refl (omega (arith, c.loop-i-test.false)) c.loop-i.invariant
+returns c = filled_end _ c.loop-place.place _ _ _ refl (omega (arith, c.loop-place-test.false)) c.loop-place.invariant
