@@ -11,7 +11,7 @@ use Rattle.rules.specs.Shape.{greatest_m, carriers, greatest_h, phases, half_tur
 use Rattle.rules.proofs.Range.{InRange, in_shape_range, phases_by_two, phases_most}
 use Rattle.encoder.specs.declared.Form.{Form}
 use Rattle.encoder.specs.Arrays.{cell}
-use Rattle.encoder.specs.Forms.{term_at, step_at, linear_of, links_of}
+use Rattle.encoder.specs.Forms.{term_at, step_at, link_at, linear_of, links_of}
 
 -- the greatest term, sum of terms and sum of links of a shape in range
 abbrev pub most_term : ℕ
@@ -48,13 +48,13 @@ module _ (f : Form) (i : ℕ) (inside : i < carriers greatest_m) where
   pub step_le : (k : ℕ) → k < f.shape.m → step_at f i k ≤ 1
   step_le k h = f.digits (get_or f.steps k 0) i (f.rows k h) inside
 
-  pub link_le : (k : ℕ) → k < f.shape.m - 1 → step_at f i k * step_at f i (k + 1) ≤ 1
+  pub link_le : (k : ℕ) → k < f.shape.m - 1 → link_at f i k ≤ 1
   link_le k h =
       mul-le-mul {n₁ = step_at f i k} {m₁ = step_at f i (k + 1)} {n₂ = 1} {m₂ = 1}
       (step_le k (omega arith)) (step_le (k + 1) (omega arith))
 
-  pub links_le : (n : ℕ) → n ≤ f.shape.m - 1 → sum_below n (λ k. step_at f i k * step_at f i (k + 1)) ≤ n * 1
-  links_le n h = sum_below_le n 1 (λ k. step_at f i k * step_at f i (k + 1)) (λ k l. link_le k (omega arith))
+  pub links_le : (n : ℕ) → n ≤ f.shape.m - 1 → sum_below n (link_at f i) ≤ n * 1
+  links_le n h = sum_below_le n 1 (link_at f i) (λ k l. link_le k (omega arith))
 
   pub links_of_le : links_of f i ≤ most_links
   unfolding links_of

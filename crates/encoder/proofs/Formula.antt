@@ -5,7 +5,7 @@ use Prim.Native.Nat.{ℕ, zero, suc, ◌+◌, ◌-◌, ◌*◌, ◌%◌, ◌≤�
 use native.Mathlib.Nat.{lt_of_lt_of_le, suc-ne-zero, suc_inj, one-mul}
 use native.Mathlib.Numerals.{add-one}
 use native.Mathlib.Omega.{arith}
-use mathlib.Core.Path.{◌≡◌, refl, sym, ◌∙◌, ap, ap₂, subst}
+use mathlib.Core.Path.{◌≡◌, refl, sym, ◌∙◌, ap, ap₂}
 use mathlib.Core.List.{List, [], ◌∷◌}
 use lib.ListN.{length, get_or, replicate}
 use Rattle.range.specs.Below.{sum_below, list_below}
@@ -17,7 +17,7 @@ use Rattle.rules.specs.Place.{digit, generator_at}
 use Rattle.rules.specs.Path.{IsPath, path_at, head_of}
 use Rattle.rules.specs.Label.{labels, label_path, label_of, row_coefficient}
 use Rattle.rules.specs.Word.{links, word_at, partner_at, word_of, partner_of}
-use Rattle.rules.proofs.Range.{InRange, range_in_m, phases_by_two, phases_most, carriers_most}
+use Rattle.rules.proofs.Range.{InRange, range_in_m, carriers_most}
 use Rattle.paths.proofs.Members.{is_path_in}
 use Rattle.words.proofs.Labels.{coefficient_lt, constant_lt}
 use Rattle.words.proofs.Forms.{form_at_rows, partner_at_form}

@@ -1,5 +1,5 @@
--- An array made by a closure of the place: where each call gives what f says and leaves the closure as it was, the array
--- is f's list.
+-- An array made by a closure of the place: where each call gives what f says and leaves the closure as it was, the
+-- array is f's list.
 -- In order: the elements made from place i on; the whole.  Assumes nothing.
 use Prim.Native.Nat.{ℕ, zero, suc, ◌+◌, ◌<◌}
 use native.Mathlib.Nat.{zero-add, not-suc-le-zero, le_of_suc-le-suc}
@@ -7,7 +7,7 @@ use native.Mathlib.Omega.{arith}
 use denote.Param.Members.{Mut, Called}
 use mathlib.Core.Path.{◌≡◌, sym, ◌∙◌, ap, subst}
 use mathlib.Core.List.{List}
-use lib.ListN.{length, get_or}
+use lib.ListN.{get_or}
 use lib.Seq.{ext_get_or}
 use Rattle.std.specs.Array.{IsFromFnResultFrom, IsFromFnResult}
 use Rattle.range.specs.Below.{list_below}

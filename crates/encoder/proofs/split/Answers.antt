@@ -2,7 +2,7 @@
 -- Assumes nothing.
 use Prim.Native.Nat.{suc}
 use native.Mathlib.Omega.{arith}
-use mathlib.Core.Path.{◌≡◌, refl, ◌∙◌}
+use mathlib.Core.Path.{◌≡◌, refl}
 use lib.ListN.{replicate}
 use Rattle.rules.specs.Shape.{greatest_m}
 use Rattle.rules.specs.Label.{label_path}

@@ -1,6 +1,6 @@
 -- `encoder::Form::symbol` meets its contract: the sums are small, so nothing wraps before the remainder is taken.
 -- Assumes nothing.
-use Prim.Native.Nat.{ℕ, ◌+◌, ◌*◌, ◌≤◌}
+use Prim.Native.Nat.{◌*◌, ◌≤◌}
 use native.Mathlib.Nat.{mul-le-mul}
 use native.Mathlib.Omega.{arith}
 use Rattle.rules.specs.Shape.{greatest_h, half_turn}
@@ -10,17 +10,20 @@ use Rattle.encoder.proofs.Form.symbol.Goals.{After-digit-first}
 use Rattle.encoder.proofs.Form.symbol.Goals as goal
 
 -- the three summands
-small : (c : After-digit-first) → let f = c.args.self.now in
+small : (c : After-digit-first) →
     (c.half_turn-half.result * c.links-links.result ≤ half_turn greatest_h * most_links)
     × (c.linear-linear.result ≤ most_linear)
-    × (f.lift * c.digit-first.result ≤ half_turn greatest_h)
+    × (c.args.self.now.lift * c.digit-first.result ≤ half_turn greatest_h)
 small c =
-    let f = c.args.self.now in (
-      mul-le-mul {n₁ = c.half_turn-half.result} {m₁ = c.links-links.result} {n₂ = half_turn greatest_h} {m₂ = most_links}
-          (omega (arith, c.half_turn-half.ensures, half_turn_most f)) (omega (arith, c.links-links.ensures, links_of_le f c.args.at.place c.args.at.inside)),
-      omega (arith, c.linear-linear.ensures, linear_of_le f c.args.at.place c.args.at.inside),
-      mul-le-mul {n₁ = f.lift} {m₁ = c.digit-first.result} {n₂ = half_turn greatest_h} {m₂ = 1} f.lifted
-          (omega (arith, c.digit-first.ensures, first_le f c.args.at.place c.args.at.inside)),
+    let f = c.args.self.now in
+    let i = c.args.at.place in
+    let inside = c.args.at.inside in (
+      mul-le-mul {n₂ = half_turn greatest_h} {m₂ = most_links}
+          (omega (arith, c.half_turn-half.ensures, half_turn_most f))
+          (omega (arith, c.links-links.ensures, links_of_le f i inside)),
+      omega (arith, c.linear-linear.ensures, linear_of_le f i inside),
+      mul-le-mul {n₂ = half_turn greatest_h} {m₂ = 1} f.lifted
+          (omega (arith, c.digit-first.ensures, first_le f i inside)),
     )
 
 pub overflow_mul-result : goal.overflow_mul-result
