@@ -1,6 +1,6 @@
--- What the encoder combines at a place is the formula of 01: generator rows, path steps and coefficients, modulo 2^h.
--- In order: links as a sum; the first of a list; each part of the symbol; the symbol; what the arrays hold; the two
--- lifts.  Assumes nothing.
+-- What a form adds up at a place is the formula of 01: generator rows, path steps and coefficients, modulo 2^h.
+-- In order: links as a sum; the steps as code holds them, and their digits; a coefficient is small; a form of a label,
+-- each part of its symbols, its symbols; the two lifts.  Assumes nothing.
 use Prim.Native.Nat.{ℕ, zero, suc, ◌+◌, ◌-◌, ◌*◌, ◌%◌, ◌≤◌, ◌<◌}
 use native.Mathlib.Nat.{lt_of_lt_of_le, suc-ne-zero, suc_inj, one-mul}
 use native.Mathlib.Numerals.{add-one}

@@ -46,7 +46,7 @@ pub fn partner(h: u32, m: u32, message: MessageNumber, out: &mut [u8]) -> Writte
     send(h, m, message, 1, out)
 }
 
-// The word for lift 0 and the partner for lift 1.
+// The word with lift half turns of the first step's row added: the word for lift 0 and the partner for lift 1.
 fn send(h: u32, m: u32, message: MessageNumber, lift: u32, out: &mut [u8]) -> Written
     requires { lift ≤ 1 }
     ensures { Sent h m message.0
