@@ -60,9 +60,6 @@ pub loop-c-init : goal.loop-c-init
 unfolding sum_below
 loop-c-init c = refl
 
-pub overflow_mul-sum : goal.overflow_mul-sum
-overflow_mul-sum c = omega (arith, small (goal.at.overflow_mul-sum c).After-from)
-
 pub overflow_add-sum : goal.overflow_add-sum
 overflow_add-sum c = omega (arith, small (goal.at.overflow_add-sum c).After-from)
 

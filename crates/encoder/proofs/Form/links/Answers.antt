@@ -58,10 +58,6 @@ module _ (c : In-Some) where
   window_at : (k : ℕ) → k < 2 → get_or c.in-Some.link.now k 0 ≡ get_or f.steps (turn + k) 0
   window_at k h = window.3 k h ∙ get_or-take f.shape.m f.steps (turn + k) 0 (omega (arith, h, inside))
 
-  window_le : (k : ℕ) → k < 2 → get_or c.in-Some.link.now k 0 ≤ greatest_m
-  window_le k h =
-      omega (arith, window_at k h, f.rows (turn + k) (omega (arith, h, inside)), (range_of f).m_most)
-
   digit_is : (k x : ℕ) → k < 2 → x ≡ cell f.generator (get_or c.in-Some.link.now k 0) i → x ≡ step_at f i (turn + k)
   digit_is k x h e = e ∙ ap (λ (s : ℕ). cell f.generator s i) (window_at k h)
 
@@ -97,9 +93,6 @@ loop-link-init c =
       left = rw none rest;
       added = rw none refl;
     }
-
-pub digit-requires-in-loop-link : goal.digit-requires-in-loop-link
-digit-requires-in-loop-link c = window_le (goal.at.digit-requires-in-loop-link c).In-Some 1 (omega arith)
 
 pub overflow_mul-sum : goal.overflow_mul-sum
 overflow_mul-sum c =
