@@ -10,7 +10,6 @@ use Rattle.rules.specs.Outcome.{allowed}
 use Rattle.rules.specs.Refusal.{send_refusal}
 use Rattle.rules.proofs.Messages.{label_of_lt}
 use Rattle.rules.proofs.RefusalLaws.{SendTaken, send_taken}
-use Rattle.kinds.specs.Refusals.{judged_told}
 use Rattle.encoder.specs.Arrays.{lifted_at}
 use Rattle.encoder.proofs.SentLaws.{sent_done}
 use Rattle.encoder.proofs.send.Goals.{After-label_of-label}
@@ -18,7 +17,7 @@ use Rattle.encoder.proofs.send.Goals as goal
 
 module _ (c : After-label_of-label) where
   free : send_refusal c.args.h c.args.m (length c.args.out.now) c.args.message.0 ≡ allowed
-  free = sym c.send.ensures ∙ ap judged_told c.in_default.is
+  free = sym c.in_ok-send.ensures
 
   taken : SendTaken c.args.h c.args.m (length c.args.out.now) c.args.message.0
   taken = send_taken _ _ _ _ free
