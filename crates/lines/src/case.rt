@@ -8,23 +8,27 @@
 //   transform M LIST LIST       the lists given are both areas before
 //   run M LIST LIST
 //   look M LIST LIST
-use crate::rest::{List, Rest};
-use crate::telling;
+use crate::rest::{Rest, Row};
+use crate::telling::{
+    of_heard, of_judged, of_matched, of_paired, of_reading, of_written, tell, tell_areas,
+    tell_found,
+};
 use kinds::MessageNumber;
+use show::{List, Message, Refused, Word};
 use std::io;
 use std::io::Write;
 
 #[derive(Drop)]
 pub enum Case {
-    Encode(u32, u32, MessageNumber, List<u8>),
-    Partner(u32, u32, MessageNumber, List<u8>),
-    Pair(u32, u32, List<u8>, List<u8>),
-    Read(u32, u32, List<u8>),
-    Hard(u32, u32, List<u8>),
-    Soft(u32, u32, List<i16>),
-    Transform(u32, List<i32>, List<i32>),
-    Run(u32, List<i32>, List<i32>),
-    Look(u32, List<i32>, List<i32>),
+    Encode(u32, u32, MessageNumber, Row<u8>),
+    Partner(u32, u32, MessageNumber, Row<u8>),
+    Pair(u32, u32, Row<u8>, Row<u8>),
+    Read(u32, u32, Row<u8>),
+    Hard(u32, u32, Row<u8>),
+    Soft(u32, u32, Row<i16>),
+    Transform(u32, Row<i32>, Row<i32>),
+    Run(u32, Row<i32>, Row<i32>),
+    Look(u32, Row<i32>, Row<i32>),
 }
 
 impl Case {
@@ -32,11 +36,16 @@ impl Case {
     pub(super) fn of(line: &[u8]) -> Option<Case> {
         let rest = &mut Rest::of(line);
         let case = match rest.name() {
-            b"encode" => Case::Encode(rest.number()?, rest.number()?, message(rest)?, rest.word()?),
+            b"encode" => Case::Encode(
+                rest.number()?,
+                rest.number()?,
+                rest.message()?,
+                rest.word()?,
+            ),
             b"partner" => Case::Partner(
                 rest.number()?,
                 rest.number()?,
-                message(rest)?,
+                rest.message()?,
                 rest.word()?,
             ),
             b"pair" => Case::Pair(rest.number()?, rest.number()?, rest.word()?, rest.word()?),
@@ -55,43 +64,48 @@ impl Case {
     pub(super) fn answer<W: Write>(self, out: &mut W) -> io::Result<()> {
         match self {
             Case::Encode(h, m, message, mut word) => {
-                let answer = encoder::encode(h, m, message, &mut word);
-                telling::written(out, answer, &word)
+                let sent = of_written(encoder::encode(h, m, message, &mut word));
+                tell(out, sent.map(|()| "done"))?;
+                write!(out, " [{}]", Word(&word))
             }
             Case::Partner(h, m, message, mut word) => {
-                let answer = encoder::partner(h, m, message, &mut word);
-                telling::written(out, answer, &word)
+                let sent = of_written(encoder::partner(h, m, message, &mut word));
+                tell(out, sent.map(|()| "done"))?;
+                write!(out, " [{}]", Word(&word))
             }
-            Case::Pair(h, m, first, second) => telling::paired(
+            Case::Pair(h, m, first, second) => {
+                let checked = of_paired(pair::check(h, m, &first, &second));
+                tell(out, checked.map(|pair| if pair { "yes" } else { "no" }))
+            }
+            Case::Read(h, m, word) => tell(out, of_reading(reader::read(h, m, &word)).map(Message)),
+            Case::Hard(h, m, word) => tell_found(
                 out,
-                pair::check(h, m, &first, &second),
+                "distance",
+                of_matched(decoder::hard(h, m, &word)),
             ),
-            Case::Read(h, m, word) => telling::reading(out, reader::read(h, m, &word)),
-            Case::Hard(h, m, word) => telling::matched(out, decoder::hard(h, m, &word)),
-            Case::Soft(h, m, values) => telling::heard(out, decoder::soft(h, m, &values)),
+            Case::Soft(h, m, values) => tell_found(
+                out,
+                "correlation",
+                of_heard(decoder::soft(h, m, &values)),
+            ),
             Case::Transform(m, mut first, mut second) => {
-                let judged = refusals::transform(m, &first, &second);
-                telling::part(
-                    out,
-                    judged,
-                    transform::transform(m, &mut first, &mut second),
-                )?;
-                telling::areas(out, &first, &second)
+                let judged = of_judged(refusals::transform(m, &first, &second));
+                let part = List(transform::transform(m, &mut first, &mut second));
+                match judged {
+                    Ok(()) => write!(out, "part [{part}]")?,
+                    Err(why) => write!(out, "{}", Refused(why))?,
+                }
+                tell_areas(out, &first, &second)
             }
             Case::Run(m, mut first, mut second) => {
-                let count = transform::run(m, &mut first, &mut second);
-                write!(out, "{count}")?;
-                telling::areas(out, &first, &second)
+                write!(out, "{}", transform::run(m, &mut first, &mut second))?;
+                tell_areas(out, &first, &second)
             }
             Case::Look(m, mut first, mut second) => {
                 let seen = caller::look(m, &mut first, &mut second);
                 write!(out, "{} and {}", seen.total, seen.kept)?;
-                telling::areas(out, &first, &second)
+                tell_areas(out, &first, &second)
             }
         }
     }
-}
-
-fn message(rest: &mut Rest<'_>) -> Option<MessageNumber> {
-    Some(MessageNumber(rest.number()?))
 }

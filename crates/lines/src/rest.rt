@@ -5,6 +5,7 @@
 //   word        a space and [0002(255)3]: a digit for each symbol below 10, and parentheses round any other
 //   list        a space and [1 -2 32767]: signed numbers with one space between two
 use arrayvec::ArrayVec;
+use kinds::MessageNumber;
 use shape::PLACES;
 use std::num::NonZeroU32;
 use std::str;
@@ -14,7 +15,7 @@ use std::str::FromStr;
 pub const MOST: usize = 4 * PLACES;
 
 // Up to so many symbols or numbers.
-pub type List<T> = ArrayVec<T, MOST>;
+pub type Row<T> = ArrayVec<T, MOST>;
 
 // What is left of a line.
 #[derive(Clone, Copy)]
@@ -41,8 +42,12 @@ impl<'a> Rest<'a> {
         self.digits()
     }
 
-    pub(super) fn word(&mut self) -> Option<List<u8>> {
-        let mut word = List::new();
+    pub(super) fn message(&mut self) -> Option<MessageNumber> {
+        self.number().map(MessageNumber)
+    }
+
+    pub(super) fn word(&mut self) -> Option<Row<u8>> {
+        let mut word = Row::new();
         self.text(b" [")?;
         while self.text(b"]").is_none() {
             word.try_push(self.symbol()?).ok()?;
@@ -50,10 +55,8 @@ impl<'a> Rest<'a> {
         Some(word)
     }
 
-    pub(super) fn list<T: Default + Drop + TryFrom<i64, Error: Drop>>(
-        &mut self,
-    ) -> Option<List<T>> {
-        let mut list = List::new();
+    pub(super) fn list<T: Default + Drop + TryFrom<i64, Error: Drop>>(&mut self) -> Option<Row<T>> {
+        let mut list = Row::new();
         self.text(b" [")?;
         while self.text(b"]").is_none() {
             if !list.is_empty() {

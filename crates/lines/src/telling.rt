@@ -8,74 +8,100 @@
 // and behind each answer of the transform, its core and the caller of it, `areas LIST LIST`: both areas after it.
 use answers::{Heard, Matched};
 use encoder::Written;
-use kinds::Judged;
+use kinds::{Judged, MessageNumber, Refusal};
 use pair::Paired;
 use reader::Reading;
-use show::{List, Refused, Word};
-use std::io;
+use show::{List, Message, Refused, Tie};
 use std::io::Write;
+use std::{fmt, io};
 
-// With what the slice holds after the call.
-pub(super) fn written<W: Write>(out: &mut W, answer: Written, word: &[u8]) -> io::Result<()> {
+// What a call answers, or its refusal.
+pub(super) fn tell<W: Write>(
+    out: &mut W,
+    answer: Result<impl fmt::Display + Drop, Refusal>,
+) -> io::Result<()> {
     match answer {
-        Written::Done => write!(out, "done")?,
-        Written::Refused(why) => write!(out, "{}", Refused(why))?,
+        Ok(found) => write!(out, "{found}"),
+        Err(why) => write!(out, "{}", Refused(why)),
     }
-    write!(out, " [{}]", Word(word))
 }
 
-pub(super) fn paired<W: Write>(out: &mut W, answer: Paired) -> io::Result<()> {
+// What a decoder answers, with the name of its value.
+pub(super) fn tell_found<W: Write>(
+    out: &mut W,
+    name: &str,
+    answer: Result<Found<impl fmt::Display + Drop>, Refusal>,
+) -> io::Result<()> {
     match answer {
-        Paired::Yes => write!(out, "yes"),
-        Paired::No => write!(out, "no"),
-        Paired::Refused(why) => write!(out, "{}", Refused(why)),
+        Ok(found) => write!(
+            out,
+            "{} {name} {} {}",
+            Message(found.message),
+            found.value,
+            Tie(found.tied)
+        ),
+        Err(why) => write!(out, "{}", Refused(why)),
     }
 }
 
-pub(super) fn reading<W: Write>(out: &mut W, answer: Reading) -> io::Result<()> {
-    match answer {
-        Reading::Found(message) => write!(out, "message {}", message.0),
-        Reading::Refused(why) => write!(out, "{}", Refused(why)),
-    }
-}
-
-pub(super) fn matched<W: Write>(out: &mut W, answer: Matched) -> io::Result<()> {
-    match answer {
-        Matched::Found(found) => {
-            let message = found.message.0;
-            let distance = found.distance;
-            let tied = tied(found.tied);
-            write!(out, "message {message} distance {distance} {tied}")
-        }
-        Matched::Refused(why) => write!(out, "{}", Refused(why)),
-    }
-}
-
-pub(super) fn heard<W: Write>(out: &mut W, answer: Heard) -> io::Result<()> {
-    match answer {
-        Heard::Found(found) => {
-            let message = found.message.0;
-            let correlation = found.correlation;
-            let tied = tied(found.tied);
-            write!(out, "message {message} correlation {correlation} {tied}")
-        }
-        Heard::Refused(why) => write!(out, "{}", Refused(why)),
-    }
-}
-
-// Whether another word is as good.
-fn tied(tied: bool) -> &'static str {
-    if tied { "tied" } else { "not tied" }
-}
-
-// The part, or why there is none.
-pub(super) fn part<W: Write>(out: &mut W, judged: Judged, part: &[i32]) -> io::Result<()> {
-    match judged {
-        Judged::Allowed => write!(out, "part [{}]", List(part)),
-        Judged::Refused(why) => write!(out, "{}", Refused(why)),
-    }
-}
-
-pub(super) fn areas<W: Write>(out: &mut W, first: &[i32], second: &[i32]) -> io::Result<()> {
+pub(super) fn tell_areas<W: Write>(out: &mut W, first: &[i32], second: &[i32]) -> io::Result<()> {
     write!(out, " areas [{}] [{}]", List(first), List(second))
+}
+
+#[derive(Clone, Copy)]
+pub struct Found<V> {
+    pub message: MessageNumber,
+    pub value: V,
+    pub tied: bool,
+}
+
+pub(super) fn of_written(answer: Written) -> Result<(), Refusal> {
+    match answer {
+        Written::Done => Ok(()),
+        Written::Refused(why) => Err(why),
+    }
+}
+
+pub(super) fn of_paired(answer: Paired) -> Result<bool, Refusal> {
+    match answer {
+        Paired::Yes => Ok(true),
+        Paired::No => Ok(false),
+        Paired::Refused(why) => Err(why),
+    }
+}
+
+pub(super) fn of_reading(answer: Reading) -> Result<MessageNumber, Refusal> {
+    match answer {
+        Reading::Found(message) => Ok(message),
+        Reading::Refused(why) => Err(why),
+    }
+}
+
+pub(super) fn of_judged(answer: Judged) -> Result<(), Refusal> {
+    match answer {
+        Judged::Allowed => Ok(()),
+        Judged::Refused(why) => Err(why),
+    }
+}
+
+pub(super) fn of_matched(answer: Matched) -> Result<Found<u32>, Refusal> {
+    match answer {
+        Matched::Found(found) => Ok(Found {
+            message: found.message,
+            value: found.distance,
+            tied: found.tied,
+        }),
+        Matched::Refused(why) => Err(why),
+    }
+}
+
+pub(super) fn of_heard(answer: Heard) -> Result<Found<i32>, Refusal> {
+    match answer {
+        Heard::Found(found) => Ok(Found {
+            message: found.message,
+            value: found.correlation,
+            tied: found.tied,
+        }),
+        Heard::Refused(why) => Err(why),
+    }
 }

@@ -1,9 +1,30 @@
-// How the programs print words, lists and refusals: each is wrapped in a type of this crate, which is printed by `{}`.
-// No contract speaks of what is printed; each `fmt` is proved safe and to end.
+// How the programs print what the calls answer: each type wraps a part of an answer, which `{}` then prints. No contract
+// speaks of what is printed; each `fmt` is proved safe and to end.
 #![tactic(auto)]
 
-use kinds::Refusal;
+use kinds::{MessageNumber, Refusal};
 use std::fmt;
+
+// A message by its number.
+#[derive(Clone, Copy)]
+pub struct Message(pub MessageNumber);
+
+impl fmt::Display for Message {
+    fn fmt<W: fmt::Write>(&self, f: &mut fmt::Formatter<W>) -> fmt::Result {
+        let MessageNumber(number) = self.0;
+        write!(f, "message {number}")
+    }
+}
+
+// Whether another word is as good as the one found.
+#[derive(Clone, Copy)]
+pub struct Tie(pub bool);
+
+impl fmt::Display for Tie {
+    fn fmt<W: fmt::Write>(&self, f: &mut fmt::Formatter<W>) -> fmt::Result {
+        f.write_str(if self.0 { "tied" } else { "not tied" })
+    }
+}
 
 // A word: its symbols one behind the other, each as a digit, or in parentheses where it needs more than one.
 #[derive(Clone, Copy)]
