@@ -9,6 +9,7 @@ use encoder::Written;
 use kinds::{MessageNumber, Refusal};
 use pair::Paired;
 use reader::Reading;
+use shape::Shape;
 use show::{List, Message, Reason, Refused, Tie, Word};
 use std::io::Write;
 use std::{fmt, io};
@@ -57,8 +58,9 @@ fn main(rt: HostRuntime) -> io::Result<()> {
 
 // The shape, and what follows from it: 2^h phases and 2^m carriers.
 fn tell_shape<W: Write>(out: &mut W) -> io::Result<()> {
-    let phases = shape::power(H);
-    let carriers = shape::power(M);
+    let shape = Shape { h: H, m: M };
+    let phases = shape.phases();
+    let carriers = shape.carriers();
     writeln!(
         out,
         "shape: h = {H}, m = {M}: {phases} phases, {carriers} carriers"

@@ -4,7 +4,6 @@
 // it answers. tests/cases.md says the form of a line and of its answer.
 #![tactic(auto)]
 
-use arrayvec::ArrayVec;
 use case::Case;
 use std::io;
 use std::io::{Read, Write};
@@ -18,17 +17,22 @@ const MOST_OF_TEXT: usize = 2097152;
 
 const MOST_OF_LINE: usize = 4000;
 
-// Room for a text that has one byte too many.
-const ROOM: usize = MOST_OF_TEXT + 1;
-
 // Answers each line of the input, or only says that it is too long. The first read or write that fails ends it.
 pub fn run<R: Read, W: Write>(input: &mut R, out: &mut W) -> io::Result<()> {
-    let mut text = ArrayVec::<u8, ROOM>::new();
-    io::copy(&mut input.take(ROOM as u64), &mut text)?;
-    if text.is_full() {
-        return writeln!(out, "too long");
+    let mut text = [0u8; MOST_OF_TEXT + 1];
+    read(input, out, &mut text)
+}
+
+// Reads into a text that has room for one byte too many.
+fn read<R: Read, W: Write>(input: &mut R, out: &mut W, text: &mut [u8]) -> io::Result<()> {
+    let size = text.len();
+    let mut room = &mut *text;
+    let count = io::copy(&mut input.take(size as u64), &mut room)? as usize;
+    if count < size {
+        answers(out, &text[..count])
+    } else {
+        writeln!(out, "too long")
     }
-    answers(out, &text)
 }
 
 // Answers each line of a text. A line ends at its newline, or with the text.
