@@ -65,9 +65,9 @@ pub fn hear(channel: Channel, word: &[u8], y: &mut [i16]) -> u64
 {
     let four = word.len() < y.len();
     let mut seed = channel.seed;
-    for e in 0..y.len() {
+    for (e, value) in y.iter_mut().enumerate() {
         seed = next(seed);
-        y[e] = lowered(channel.moved(channel.tone(four, word, e), seed));
+        *value = lowered(channel.moved(channel.tone(four, word, e), seed));
     }
     seed
 }
