@@ -4,13 +4,10 @@
 // receiver hears". The word is the last starred one of 01's "Known words" for h = 2 and m = 4.
 #![tactic(auto)]
 
-use answers::{Heard, Matched};
-use encoder::Written;
+use answers::Found;
 use kinds::{MessageNumber, Refusal};
-use pair::Paired;
-use reader::Reading;
 use shape::Shape;
-use show::{List, Message, Reason, Refused, Tie, Word};
+use show::{List, Message, Refused, Tie, Word};
 use std::io::Write;
 use std::{fmt, io};
 use tones::Channel;
@@ -70,40 +67,40 @@ fn tell_shape<W: Write>(out: &mut W) -> io::Result<()> {
 // Encodes the message.
 fn tell_word<W: Write>(out: &mut W, word: &mut [u8]) -> io::Result<()> {
     write!(out, "{} as a word: ", Message(MESSAGE))?;
-    let sent = of_written(encoder::encode(H, M, MESSAGE, word));
+    let sent = encoder::encode(H, M, MESSAGE, word);
     tell(out, sent.map(|()| Word(word)))
 }
 
 // Writes the partner of the message's word.
 fn tell_partner<W: Write>(out: &mut W, word: &mut [u8]) -> io::Result<()> {
     write!(out, "the partner of that word: ")?;
-    let sent = of_written(encoder::partner(H, M, MESSAGE, word));
+    let sent = encoder::partner(H, M, MESSAGE, word);
     tell(out, sent.map(|()| Word(word)))
 }
 
 // Checks whether the two words are a Golay pair.
 fn tell_pair<W: Write>(out: &mut W, first: &[u8], second: &[u8]) -> io::Result<()> {
     write!(out, "are the two a Golay pair? ")?;
-    let checked = of_paired(pair::check(H, M, first, second));
+    let checked = pair::check(H, M, first, second);
     tell(out, checked.map(|pair| if pair { "yes" } else { "no" }))
 }
 
 // Reads a word back.
 fn tell_reading<W: Write>(out: &mut W, word: &[u8]) -> io::Result<()> {
     write!(out, "read back: ")?;
-    tell(out, of_reading(reader::read(H, M, word)).map(Message))
+    tell(out, reader::read(H, M, word).map(Message))
 }
 
 // Decodes symbols.
 fn tell_nearest<W: Write>(out: &mut W, word: &[u8]) -> io::Result<()> {
     write!(out, "hard decoding: ")?;
-    tell_found(out, "at distance", of_matched(decoder::hard(H, M, word)))
+    tell_found(out, "at distance", decoder::hard(H, M, word))
 }
 
 // Decodes soft values.
 fn tell_loudest<W: Write>(out: &mut W, y: &[i16]) -> io::Result<()> {
     write!(out, "soft decoding: ")?;
-    tell_found(out, "with correlation", of_heard(decoder::soft(H, M, y)))
+    tell_found(out, "with correlation", decoder::soft(H, M, y))
 }
 
 // What a call answers, to the end of the line.
@@ -137,56 +134,5 @@ fn tell_found<W: Write>(
 
 // A refusal by its number and place, and in words.
 fn tell_refusal<W: Write>(out: &mut W, why: Refusal) -> io::Result<()> {
-    writeln!(out, "{}: {}", Refused(why), Reason(why))
-}
-
-#[derive(Clone, Copy)]
-pub struct Found<V> {
-    pub message: MessageNumber,
-    pub value: V,
-    pub tied: bool,
-}
-
-fn of_written(answer: Written) -> Result<(), Refusal> {
-    match answer {
-        Written::Done => Ok(()),
-        Written::Refused(why) => Err(why),
-    }
-}
-
-fn of_paired(answer: Paired) -> Result<bool, Refusal> {
-    match answer {
-        Paired::Yes => Ok(true),
-        Paired::No => Ok(false),
-        Paired::Refused(why) => Err(why),
-    }
-}
-
-fn of_reading(answer: Reading) -> Result<MessageNumber, Refusal> {
-    match answer {
-        Reading::Found(message) => Ok(message),
-        Reading::Refused(why) => Err(why),
-    }
-}
-
-fn of_matched(answer: Matched) -> Result<Found<u32>, Refusal> {
-    match answer {
-        Matched::Found(found) => Ok(Found {
-            message: found.message,
-            value: found.distance,
-            tied: found.tied,
-        }),
-        Matched::Refused(why) => Err(why),
-    }
-}
-
-fn of_heard(answer: Heard) -> Result<Found<i32>, Refusal> {
-    match answer {
-        Heard::Found(found) => Ok(Found {
-            message: found.message,
-            value: found.correlation,
-            tied: found.tied,
-        }),
-        Heard::Refused(why) => Err(why),
-    }
+    writeln!(out, "{}: {why}", Refused(why))
 }

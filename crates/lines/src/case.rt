@@ -1,4 +1,4 @@
-// A case: a call of the library as a line has it.
+// A case, which is a call of the library, as a line has it:
 //   encode H M MESSAGE WORD     the word given is what the slice holds before
 //   partner H M MESSAGE WORD
 //   pair H M WORD WORD
@@ -9,12 +9,9 @@
 //   run M LIST LIST
 //   look M LIST LIST
 use crate::rest::{Rest, Row};
-use crate::telling::{
-    of_heard, of_judged, of_matched, of_paired, of_reading, of_written, tell, tell_areas,
-    tell_found,
-};
+use crate::telling::{tell, tell_areas, tell_found, tell_sent};
 use kinds::MessageNumber;
-use show::{List, Message, Refused, Word};
+use show::{List, Message, Refused};
 use std::io;
 use std::io::Write;
 
@@ -64,32 +61,26 @@ impl Case {
     pub(super) fn answer<W: Write>(self, out: &mut W) -> io::Result<()> {
         match self {
             Case::Encode(h, m, message, mut word) => {
-                let sent = of_written(encoder::encode(h, m, message, &mut word));
-                tell(out, sent.map(|()| "done"))?;
-                write!(out, " [{}]", Word(&word))
+                let sent = encoder::encode(h, m, message, &mut word);
+                tell_sent(out, sent, &word)
             }
             Case::Partner(h, m, message, mut word) => {
-                let sent = of_written(encoder::partner(h, m, message, &mut word));
-                tell(out, sent.map(|()| "done"))?;
-                write!(out, " [{}]", Word(&word))
+                let sent = encoder::partner(h, m, message, &mut word);
+                tell_sent(out, sent, &word)
             }
             Case::Pair(h, m, first, second) => {
-                let checked = of_paired(pair::check(h, m, &first, &second));
+                let checked = pair::check(h, m, &first, &second);
                 tell(out, checked.map(|pair| if pair { "yes" } else { "no" }))
             }
-            Case::Read(h, m, word) => tell(out, of_reading(reader::read(h, m, &word)).map(Message)),
-            Case::Hard(h, m, word) => tell_found(
-                out,
-                "distance",
-                of_matched(decoder::hard(h, m, &word)),
-            ),
+            Case::Read(h, m, word) => tell(out, reader::read(h, m, &word).map(Message)),
+            Case::Hard(h, m, word) => tell_found(out, "distance", decoder::hard(h, m, &word)),
             Case::Soft(h, m, values) => tell_found(
                 out,
                 "correlation",
-                of_heard(decoder::soft(h, m, &values)),
+                decoder::soft(h, m, &values),
             ),
             Case::Transform(m, mut first, mut second) => {
-                let judged = of_judged(refusals::transform(m, &first, &second));
+                let judged = refusals::transform(m, &first, &second);
                 let part = List(transform::transform(m, &mut first, &mut second));
                 match judged {
                     Ok(()) => write!(out, "part [{part}]")?,

@@ -5,13 +5,12 @@
 //   hard                message G distance D tied | message G distance D not tied | refused K | refused 3 at place P
 //   soft                message G correlation C tied | message G correlation C not tied | refused K
 //   transform           part LIST | refused K | refused 7 at place P
-// and behind each answer of the transform, its core and the caller of it, `areas LIST LIST`: both areas after it.
-use answers::{Heard, Matched};
-use encoder::Written;
-use kinds::{Judged, MessageNumber, Refusal};
-use pair::Paired;
-use reader::Reading;
-use show::{List, Message, Refused, Tie};
+//   run                 C, how many entries
+//   look                T and O, what the caller sees
+// and behind each of the last three ` areas LIST LIST`, both areas after the call.
+use answers::Found;
+use kinds::Refusal;
+use show::{List, Message, Refused, Tie, Word};
 use std::io::Write;
 use std::{fmt, io};
 
@@ -24,6 +23,16 @@ pub(super) fn tell<W: Write>(
         Ok(found) => write!(out, "{found}"),
         Err(why) => write!(out, "{}", Refused(why)),
     }
+}
+
+// What encode or partner answers, with what the slice holds after the call.
+pub(super) fn tell_sent<W: Write>(
+    out: &mut W,
+    answer: Result<(), Refusal>,
+    word: &[u8],
+) -> io::Result<()> {
+    tell(out, answer.map(|()| "done"))?;
+    write!(out, " [{}]", Word(word))
 }
 
 // What a decoder answers, with the name of its value.
@@ -46,62 +55,4 @@ pub(super) fn tell_found<W: Write>(
 
 pub(super) fn tell_areas<W: Write>(out: &mut W, first: &[i32], second: &[i32]) -> io::Result<()> {
     write!(out, " areas [{}] [{}]", List(first), List(second))
-}
-
-#[derive(Clone, Copy)]
-pub struct Found<V> {
-    pub message: MessageNumber,
-    pub value: V,
-    pub tied: bool,
-}
-
-pub(super) fn of_written(answer: Written) -> Result<(), Refusal> {
-    match answer {
-        Written::Done => Ok(()),
-        Written::Refused(why) => Err(why),
-    }
-}
-
-pub(super) fn of_paired(answer: Paired) -> Result<bool, Refusal> {
-    match answer {
-        Paired::Yes => Ok(true),
-        Paired::No => Ok(false),
-        Paired::Refused(why) => Err(why),
-    }
-}
-
-pub(super) fn of_reading(answer: Reading) -> Result<MessageNumber, Refusal> {
-    match answer {
-        Reading::Found(message) => Ok(message),
-        Reading::Refused(why) => Err(why),
-    }
-}
-
-pub(super) fn of_judged(answer: Judged) -> Result<(), Refusal> {
-    match answer {
-        Judged::Allowed => Ok(()),
-        Judged::Refused(why) => Err(why),
-    }
-}
-
-pub(super) fn of_matched(answer: Matched) -> Result<Found<u32>, Refusal> {
-    match answer {
-        Matched::Found(found) => Ok(Found {
-            message: found.message,
-            value: found.distance,
-            tied: found.tied,
-        }),
-        Matched::Refused(why) => Err(why),
-    }
-}
-
-pub(super) fn of_heard(answer: Heard) -> Result<Found<i32>, Refusal> {
-    match answer {
-        Heard::Found(found) => Ok(Found {
-            message: found.message,
-            value: found.correlation,
-            tied: found.tied,
-        }),
-        Heard::Refused(why) => Err(why),
-    }
 }

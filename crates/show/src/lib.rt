@@ -2,7 +2,7 @@
 // speaks of what is printed; each `fmt` is proved safe and to end.
 #![tactic(auto)]
 
-use kinds::{MessageNumber, Refusal};
+use kinds::{MessageNumber, Place, Refusal, Which};
 use std::fmt;
 
 // A message by its number.
@@ -66,36 +66,13 @@ pub struct Refused(pub Refusal);
 
 impl fmt::Display for Refused {
     fn fmt<W: fmt::Write>(&self, f: &mut fmt::Formatter<W>) -> fmt::Result {
-        let number = kinds::number(self.0);
-        let carried = kinds::carries(self.0);
-        write!(f, "refused {number}")?;
-        if 0 < carried.count {
-            let place = carried.first;
+        write!(f, "refused {}", self.0.number())?;
+        if let Some(Place(place)) = self.0.place() {
             write!(f, " at place {place}")?;
         }
-        if 1 < carried.count {
-            let word = carried.second;
+        if let Some(Which(word)) = self.0.which() {
             write!(f, " of word {word}")?;
         }
         Ok(())
-    }
-}
-
-// A refusal in words.
-#[derive(Clone, Copy)]
-pub struct Reason(pub Refusal);
-
-impl fmt::Display for Reason {
-    fn fmt<W: fmt::Write>(&self, f: &mut fmt::Formatter<W>) -> fmt::Result {
-        f.write_str(match kinds::number(self.0) {
-            1 => "h or m is out of range",
-            2 => "wrong slice length for this shape",
-            3 => "a symbol is too large",
-            4 => "message number too large for this shape",
-            5 => "no message has this word",
-            6 => "decoding of eight phases (h = 3) is not supported",
-            7 => "a value is out of range",
-            _ => "see the table of refusals",
-        })
     }
 }
