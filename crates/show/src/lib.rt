@@ -1,5 +1,5 @@
-// How the programs print what the calls answer: each type wraps a part of an answer, which `{}` then prints. No contract
-// speaks of what is printed; each `fmt` is proved safe and to end.
+// How the programs print what the calls answer: each type wraps a part of an answer, which `{}` then prints.
+// No contract speaks of what is printed; each `fmt` is proved safe and to end.
 #![tactic(auto)]
 
 use kinds::{MessageNumber, Place, Refusal, Which};
