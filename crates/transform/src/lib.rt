@@ -64,15 +64,13 @@ fn rounds(m: u32, n: usize, first: &mut [i32], second: &mut [i32])
     ensures second_after { second.new ≡ second_at m m first.old second.old }
 {
     let mut s = n;
-    let mut k = 0;
-    while k < m {
-        s = s / 2;
+    for k in 0..m {
+        s /= 2;
         if k % 2 == 0 {
             stage(s, n, first, second);
         } else {
             stage(s, n, second, first);
         }
-        k += 1;
     }
 }
 
@@ -80,6 +78,7 @@ fn rounds(m: u32, n: usize, first: &mut [i32], second: &mut [i32])
 // call serves any other.
 fn stage(s: usize, n: usize, from: &[i32], to: &mut [i32])
     requires readable { Readable s n from.now }
+    requires n_least { 0 < n }
     requires n_in_bounds { n ≤ length to.old }
     ensures { to.new ≡ filled n (butterfly s (entry from.now)) to.old }
 {
@@ -96,59 +95,22 @@ fn stage(s: usize, n: usize, from: &[i32], to: &mut [i32])
 // One stage of any stride: block after block of 2 s entries.
 fn pass(s: usize, n: usize, from: &[i32], to: &mut [i32])
     requires readable { Readable s n from.now }
+    requires n_least { 0 < n }
     requires n_in_bounds { n ≤ length to.old }
     ensures { to.new ≡ filled n (butterfly s (entry from.now)) to.old }
 {
-    let mut p = 0;
-    while p < n {
-        sums(s, p, from, to);
-        differences(s, p, from, to);
-        p = p + s + s;
+    for p in (0..n).step_by(2 * s) {
+        block(s, p, from, to);
     }
 }
 
-// The first half of the block that begins at p: the sums of its entries and those of the second half.
-fn sums(s: usize, p: usize, from: &[i32], to: &mut [i32])
+// The block that begins at p: the sums of its halves in the first, the differences in the second.
+fn block(s: usize, p: usize, from: &[i32], to: &mut [i32])
     requires { Block s p from.now to.old }
-    ensures { Fills (butterfly s (entry from.now)) to.old p to.new (p + s) }
+    ensures { Fills (butterfly s (entry from.now)) to.old p to.new (p + s + s) }
 {
-    let end = p + s;
-    let mut i = p;
-    while i < end {
-        to[i] = sum(from, i, i + s);
-        i += 1;
+    for i in p..p + s {
+        to[i] = from[i] + from[i + s];
+        to[i + s] = from[i] - from[i + s];
     }
-}
-
-// The second half: the entries of the first half less its own.
-fn differences(s: usize, p: usize, from: &[i32], to: &mut [i32])
-    requires { Block s p from.now to.old }
-    ensures { Fills (butterfly s (entry from.now)) to.old (p + s) to.new
-        (p + s + s) }
-{
-    let end = p + s + s;
-    let mut i = p + s;
-    while i < end {
-        to[i] = less(from, i - s, i);
-        i += 1;
-    }
-}
-
-// Two entries added, and the first less the second.
-fn sum(a: &[i32], i: usize, j: usize) -> i32
-    requires i_in_bounds { i < length a.now }
-    requires j_in_bounds { j < length a.now }
-    requires sfits { SFits w32 (entry a.now i +ℤ entry a.now j) }
-    ensures { result ≡ entry a.now i +ℤ entry a.now j }
-{
-    a[i] + a[j]
-}
-
-fn less(a: &[i32], i: usize, j: usize) -> i32
-    requires i_in_bounds { i < length a.now }
-    requires j_in_bounds { j < length a.now }
-    requires sfits { SFits w32 (entry a.now i -ℤ entry a.now j) }
-    ensures { result ≡ entry a.now i -ℤ entry a.now j }
-{
-    a[i] - a[j]
 }

