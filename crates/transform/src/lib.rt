@@ -110,7 +110,8 @@ fn block(s: usize, p: usize, from: &[i32], to: &mut [i32])
     ensures { Fills (butterfly s (entry from.now)) to.old p to.new (p + s + s) }
 {
     for i in p..p + s {
-        to[i] = from[i] + from[i + s];
-        to[i + s] = from[i] - from[i + s];
+        let (x, y) = (from[i], from[i + s]);
+        to[i] = x + y;
+        to[i + s] = x - y;
     }
 }
