@@ -1,8 +1,8 @@
 -- What a stage writes in the two halves of a block of 2 s entries, and where blocks begin.
--- In order: the first block, the next, the last; the first half, and the second; a loop over a block that writes both
+-- In order: the greatest stride; the first block, the next, the last; the first half, and the second; a loop over a block that writes both
 -- halves (`Halved`): before it, a turn, its end.
 -- Not here: stages one after another (Stages).  Assumes nothing.
-use Prim.Native.Nat.{ℕ, ◌+◌, ◌-◌, ◌*◌, ◌/◌, ◌%◌, ◌≤◌, ◌<◌}
+use Prim.Native.Nat.{ℕ, zero, suc, ◌+◌, ◌-◌, ◌*◌, ◌/◌, ◌%◌, ◌^◌, ◌≤◌, ◌<◌}
 use native.Mathlib.Nat.{add-div_right, suc-mul, zero-mul}
 use native.Mathlib.Numerals.{add-one}
 use native.Mathlib.Omega.{arith}
@@ -10,7 +10,7 @@ use mathlib.Core.Path.{◌≡◌, refl, sym, ◌∙◌, ap}
 use mathlib.Core.Logic.{⊎_elim}
 use mathlib.Core.List.{List}
 use lib.IntN.{ℤ, ◌+ℤ◌, ◌-ℤ◌, pos}
-use lib.ListN.{length, get_or, drop, set, length-set}
+use lib.ListN.{length, set, length-set}
 use lib.Seq.{ext_get_or, get_or-drop, get_or-set_same, get_or-set_other}
 use borrow.Author.Count.{below_more}
 use Rattle.std.proofs.Common.{◌≢◌}
@@ -19,7 +19,20 @@ use Rattle.range.specs.Below.{filled, Fills}
 use Rattle.range.specs.Signed.{entry}
 use Rattle.range.proofs.Filled.{filled_at, drop_filled, length_filled}
 use Rattle.spectrum.proofs.Blocks.{block_div, block_le}
-use Rattle.transform.specs.Butterflies.{butterfly, Start}
+use Rattle.rules.specs.Shape.{greatest_m}
+use Rattle.transform.specs.Butterflies.{butterfly, Stride, Start}
+
+-- a stride that is none of the lesser ones
+pub stride_last : (s : ℕ) → Stride s → s ≢ 1 → s ≢ 2 → s ≢ 4 → s ≢ 8 → s ≡ 16
+stride_last s t = rw t.at (power_last t.digit t.below)
+  where
+    power_last : (d : ℕ) → d < greatest_m → 2 ^ d ≢ 1 → 2 ^ d ≢ 2 → 2 ^ d ≢ 4 → 2 ^ d ≢ 8 → 2 ^ d ≡ 16
+    power_last zero l e _ _ _ = absurd (e refl)
+    power_last (suc zero) l _ e _ _ = absurd (e refl)
+    power_last (suc (suc zero)) l _ _ e _ = absurd (e refl)
+    power_last (suc (suc (suc zero))) l _ _ _ e = absurd (e refl)
+    power_last (suc (suc (suc (suc zero)))) l _ _ _ _ = refl
+    power_last (suc (suc (suc (suc (suc d))))) l _ _ _ _ = absurd (omega (arith, l))
 
 pub start_zero : (s : ℕ) → Start s 0
 start_zero s = record { number = 0; at = sym (zero-mul (2 * s)) }

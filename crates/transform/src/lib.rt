@@ -18,7 +18,7 @@ ghost use Rattle.rules.specs.Shape.{carriers};
 ghost use Rattle.rules.specs.Outcome.{allowed};
 ghost use Rattle.rules.specs.Refusal.{transform_refusal};
 ghost use Rattle.transform.specs.Transformed.{Ran, Handed, AtLast};
-ghost use Rattle.transform.specs.Butterflies.{butterfly, first_at, second_at, Readable, Block};
+ghost use Rattle.transform.specs.Butterflies.{butterfly, first_at, second_at, Stride, Readable, Block};
 
 use kinds::Judged;
 
@@ -28,6 +28,7 @@ use kinds::Judged;
 // Where it is refused nothing changes, and the part is the empty one at the front of the first area.
 // The part can only be read, so what the areas hold when it is over is known at the return. The starred clause says
 // what both areas hold at last, whole; the other what the part holds and where it stands.
+// Kept: a proof by hand walks through these statements, and a `match` on the count is no plainer.
 pub fn transform<'a>(m: u32, first: &'a mut [i32], second: &'a mut [i32]) -> &'a [i32]
     ensures* areas { sem 𝓛 (AtLast m first.entry second.entry) }
     ensures handed { Handed m first.entry second.entry result }
@@ -45,6 +46,7 @@ pub fn transform<'a>(m: u32, first: &'a mut [i32], second: &'a mut [i32]) -> &'a
 // Runs the stages between the two areas, and answers how many entries the spectrum has: N, or 0 where the transform is
 // refused, and both areas then stay as they are. It is the transform without its part, for callers that go on with the
 // areas themselves.
+// Kept: an Option would say it too, but the promise `Ran` and the theorems on it speak of this number.
 pub fn run(m: u32, first: &mut [i32], second: &mut [i32]) -> usize
     ensures { Ran m first.old second.old result first.new second.new }
 {
@@ -74,44 +76,43 @@ fn rounds(m: u32, n: usize, first: &mut [i32], second: &mut [i32])
     }
 }
 
-// One stage. Strides up to 16 are written out above the loops, so that the compiler knows how long they are; the last
-// call serves any other.
+// One stage. Its stride is a const parameter of what it calls, so that the compiler knows how long the loops are.
 fn stage(s: usize, n: usize, from: &[i32], to: &mut [i32])
+    requires stride { Stride s }
     requires readable { Readable s n from.now }
     requires n_least { 0 < n }
     requires n_in_bounds { n ≤ length to.old }
     ensures { to.new ≡ filled n (butterfly s (entry from.now)) to.old }
 {
     match s {
-        1 => pass(1, n, from, to),
-        2 => pass(2, n, from, to),
-        4 => pass(4, n, from, to),
-        8 => pass(8, n, from, to),
-        16 => pass(16, n, from, to),
-        _ => pass(s, n, from, to),
+        1 => pass::<1>(n, from, to),
+        2 => pass::<2>(n, from, to),
+        4 => pass::<4>(n, from, to),
+        8 => pass::<8>(n, from, to),
+        _ => pass::<16>(n, from, to),
     }
 }
 
-// One stage of any stride: block after block of 2 s entries.
-fn pass(s: usize, n: usize, from: &[i32], to: &mut [i32])
-    requires readable { Readable s n from.now }
+// One stage of stride S: block after block of 2 S entries.
+fn pass<const S: usize>(n: usize, from: &[i32], to: &mut [i32])
+    requires readable { Readable S n from.now }
     requires n_least { 0 < n }
     requires n_in_bounds { n ≤ length to.old }
-    ensures { to.new ≡ filled n (butterfly s (entry from.now)) to.old }
+    ensures { to.new ≡ filled n (butterfly S (entry from.now)) to.old }
 {
-    for p in (0..n).step_by(2 * s) {
-        block(s, p, from, to);
+    for p in (0..n).step_by(2 * S) {
+        block::<S>(p, from, to);
     }
 }
 
 // The block that begins at p: the sums of its halves in the first, the differences in the second.
-fn block(s: usize, p: usize, from: &[i32], to: &mut [i32])
-    requires { Block s p from.now to.old }
-    ensures { Fills (butterfly s (entry from.now)) to.old p to.new (p + s + s) }
+fn block<const S: usize>(p: usize, from: &[i32], to: &mut [i32])
+    requires { Block S p from.now to.old }
+    ensures { Fills (butterfly S (entry from.now)) to.old p to.new (p + S + S) }
 {
-    for i in p..p + s {
-        let (x, y) = (from[i], from[i + s]);
+    for i in p..p + S {
+        let (x, y) = (from[i], from[i + S]);
         to[i] = x + y;
-        to[i + s] = x - y;
+        to[i + S] = x - y;
     }
 }

@@ -6,4 +6,4 @@ use Rattle.transform.proofs.Halves.{Halved}
 use Rattle.transform.proofs.block.Given as goal
 
 abbrev pub invariant-loop-i : goal.invariant-loop-i
-invariant-loop-i l = Halved (butterfly l.s (entry l.from)) l.initial.to l.s l.p l.to l.i
+invariant-loop-i g l = Halved (butterfly g.row.S (entry l.from)) l.initial.to g.row.S l.p l.to l.i

@@ -10,14 +10,14 @@ use Rattle.transform.proofs.Halves.{start_zero, start_next, start_le}
 use Rattle.transform.proofs.pass.Goals as goal
 
 pub overflow_mul-p-step : goal.overflow_mul-p-step
-overflow_mul-p-step c =
-    let one : 0 + c.args.s + c.args.s ≤ c.args.n =
-    start_le _ 0 _ (start_zero c.args.s) c.requires.readable.blocks c.requires.n_least in
+overflow_mul-p-step g c =
+    let one : 0 + g.row.S + g.row.S ≤ c.args.n =
+    start_le _ 0 _ (start_zero g.row.S) c.requires.readable.blocks c.requires.n_least in
     search rules
 
 pub block-requires : goal.block-requires
-block-requires c =
-    let inside : c.loop-p.p + c.args.s + c.args.s ≤ c.args.n =
+block-requires g c =
+    let inside : c.loop-p.p + g.row.S + g.row.S ≤ c.args.n =
     start_le _ _ _ c.loop-p.invariant.0 c.requires.readable.blocks c.loop-p-test.true in
     record {
       begins = c.loop-p.invariant.0;
@@ -27,17 +27,17 @@ block-requires c =
     }
 
 pub loop-p-preserved : goal.loop-p-preserved
-loop-p-preserved c =
-    let next : c.loop-p.p + 2 * c.args.s ≡ c.loop-p.p + c.args.s + c.args.s = omega arith in
+loop-p-preserved g c =
+    let next : c.loop-p.p + 2 * g.row.S ≡ c.loop-p.p + g.row.S + g.row.S = omega arith in
     let inside = start_le _ _ _ c.loop-p.invariant.0 c.requires.readable.blocks c.loop-p-test.true in
     rw next
     (start_next _ _ c.loop-p.invariant.0, inside, fills_trans c.loop-p.invariant.2 c.block.ensures)
 
 pub returns : goal.returns
-returns c =
+returns g c =
     fills_end _ _ _ c.loop-p.p _ c.loop-p.invariant.2 (omega (arith, c.loop-p.invariant.1, c.loop-p-test.false))
 
 pub returns-2 : goal.returns-2
-returns-2 c =
+returns-2 g c =
     let inside = start_le _ _ _ c.loop-p.invariant.0 c.requires.readable.blocks c.loop-p-test.true in
-    fills_end _ _ _ (c.loop-p.p + c.args.s + c.args.s) _ (fills_trans c.loop-p.invariant.2 c.block.ensures) (omega (arith, inside))
+    fills_end _ _ _ (c.loop-p.p + g.row.S + g.row.S) _ (fills_trans c.loop-p.invariant.2 c.block.ensures) (omega (arith, inside))
