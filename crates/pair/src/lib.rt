@@ -1,5 +1,5 @@
 // The pair check of document 01: whether two words cancel at every shift and phase.
-// `check` asks whether the words are refused; each other function counts, or compares counts.
+// `check` asks whether the words are refused; the methods of `Pair` count, and compare counts.
 // What the answer says in the document's terms is in specs/Paired.antt, and what is counted in rules, specs/Pair.antt.
 #![tactic(auto)]
 
@@ -30,68 +30,58 @@ pub fn check(h: u32, m: u32, first: &[u8], second: &[u8]) -> Paired
     if let Judged::Refused(why) = refusals::pair(h, m, first, second) {
         return Paired::Refused(why);
     }
-    if all_shifts(h, first, second) {
+    if (Pair { h, first, second }).all_shifts() {
         Paired::Yes
     } else {
         Paired::No
     }
 }
 
-// Whether the counts agree at every shift from 1 to the length less 1.
-fn all_shifts(h: u32, first: &[u8], second: &[u8]) -> bool
-    requires { Words h first.now second.now }
-    ensures { (m : ℕ) → length first.now ≡ carriers m →
-        result ≡ golay_pair h m (symbol_at first.now) (symbol_at second.now) }
-{
-    let mut u = 1;
-    while u < first.len() {
-        if !all_phases(h, first, second, u) {
-            return false;
-        }
-        u += 1;
-    }
-    true
+// Two words of one length, and an h in its range: what is counted.
+#[derive(Clone, Copy)]
+struct Pair<'a> {
+    h: u32,
+    first: &'a [u8],
+    second: &'a [u8],
+    ghost words: { Words h first.now second.now },
 }
 
-// Whether at shift u the count for each phase equals the count half a turn on.
-fn all_phases(h: u32, first: &[u8], second: &[u8], u: usize) -> bool
-    requires { Words h first.now second.now × (u ≤ length first.now) }
-    ensures { result ≡ phases_agree h (length first.now) (symbol_at first.now)
-        (symbol_at second.now) u }
-{
-    let q = shape::power(h);
-    let mut k = 0;
-    while k < q {
-        if both(h, first, second, u, k) != both(h, first, second, u, k + q / 2) {
-            return false;
-        }
-        k += 1;
+impl<'a> Pair<'a> {
+    // Whether the counts agree at every shift from 1 to the length less 1.
+    fn all_shifts(&self) -> bool
+        ensures { (m : ℕ) → length self.now.first.now ≡ carriers m →
+            result ≡ golay_pair self.now.h m (symbol_at self.now.first.now) (symbol_at self.now.second.now) }
+    {
+        (1..self.first.len()).all(|u| self.all_phases(u))
     }
-    true
-}
 
-// The count over both words together.
-fn both(h: u32, first: &[u8], second: &[u8], u: usize, k: u64) -> usize
-    requires { Words h first.now second.now × (u ≤ length first.now) }
-    ensures { result ≡ pair_count h (length first.now) (symbol_at first.now)
-        (symbol_at second.now) u k }
-{
-    count(h, first, u, k) + count(h, second, u, k)
-}
-
-// How many places have a symbol that is k more, modulo 2^h, than the symbol u places on, which is at j.
-fn count(h: u32, word: &[u8], u: usize, k: u64) -> usize
-    requires { (h ≤ greatest_h) × (u ≤ length word.now) }
-    ensures { result ≡ phase_count h (length word.now) (symbol_at word.now) u k }
-{
-    let q = shape::power(h);
-    let mut found = 0;
-    let mut j = u;
-    while j < word.len() {
-        if shape::minus(q, word[j - u], word[j]) == k % q {
-            found += 1;
-        }
-        j += 1;
+    // Whether at shift u the count for each phase equals the count half a turn on.
+    fn all_phases(&self, u: usize) -> bool
+        ensures { result ≡ phases_agree self.now.h (length self.now.first.now) (symbol_at self.now.first.now)
+            (symbol_at self.now.second.now) u }
+    {
+        let q = shape::power(self.h);
+        (0..q).all(|k| self.both(u, k) == self.both(u, k + q / 2))
     }
-    found
+
+    // The count over both words together.
+    fn both(&self, u: usize, k: u64) -> usize
+        ensures { result ≡ pair_count self.now.h (length self.now.first.now) (symbol_at self.now.first.now)
+            (symbol_at self.now.second.now) u k }
+    {
+        self.count(self.first, u, k) + self.count(self.second, u, k)
+    }
+
+    // How many places of the word have a symbol that is k more, modulo 2^h, than the symbol u places on.
+    fn count(&self, word: &[u8], u: usize, k: u64) -> usize
+        ensures { result ≡ phase_count self.now.h (length word.now) (symbol_at word.now) u k }
+    {
+        let q = shape::power(self.h);
+        let k = k % q;
+        word.iter()
+            .skip(u)
+            .zip(word)
+            .filter(|&(b, a)| shape::minus(q, *a, *b) == k)
+            .count()
+    }
 }

@@ -24,11 +24,11 @@ unfolding pair_outcome
 returns-in-Refused c =
     and_then_refused _ (sym (ap judged_told c.in-Refused.is) ∙ c.pair.ensures)
 
-pub all_shifts-requires : goal.all_shifts-requires
-all_shifts-requires c =
+pub invariant_of-all_shifts : goal.invariant_of-all_shifts
+invariant_of-all_shifts c =
     let words : Symbols c.args.h c.args.m c.args.first.now × Symbols c.args.h c.args.m c.args.second.now =
     pair_taken _ _ _ _ (sym c.pair.ensures ∙ ap judged_told c.in_default.is) in
-    pair_words _ _ _ _ words.0 words.1
+    record { words = pair_words _ _ _ _ words.0 words.1 }
 
 pub returns-then-all_shifts : goal.returns-then-all_shifts
 returns-then-all_shifts c =

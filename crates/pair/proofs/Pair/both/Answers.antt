@@ -1,4 +1,4 @@
--- `pair::both` meets its contract: the two counts are at most the two lengths, so that their sum fits.
+-- `Pair::both` meets its contract: the two counts are at most the two lengths, so that their sum fits.
 -- Assumes nothing.
 use Prim.Native.Nat.{ℕ, ◌+◌}
 use native.Mathlib.Omega.{arith}
@@ -7,20 +7,21 @@ use lib.ListN.{length}
 use Rattle.rules.specs.Pair.{pair_count}
 use Rattle.rules.specs.Word.{symbol_at}
 use Rattle.pair.proofs.Counts.{phase_count_le}
-use Rattle.pair.proofs.both.Goals as goal
+use Rattle.pair.proofs.Pair.both.Goals as goal
 
 pub overflow_add-result : goal.overflow_add-result
 overflow_add-result c =
-    let a = c.args.first.now in
-    let b = c.args.second.now in
+    let pair = c.args.self.now in
+    let a = pair.first.now in
+    let b = pair.second.now in
     omega (
       arith,
-      phase_count_le c.args.h (symbol_at a) c.args.u c.args.k (length a),
-      phase_count_le c.args.h (symbol_at b) c.args.u c.args.k (length b),
+      phase_count_le pair.h (symbol_at a) c.args.u c.args.k (length a),
+      phase_count_le pair.h (symbol_at b) c.args.u c.args.k (length b),
     )
 
 pub returns : goal.returns
 unfolding pair_count
 returns c =
-    let lengths = c.requires.0.lengths in
+    let lengths = c.args.self.now.words.lengths in
     ap₂ (λ (x y : ℕ). x + y) c.count.ensures (rw (sym lengths) c.count-2.ensures)
