@@ -2,12 +2,13 @@
 // compared with the paths in use, so that not every message is tried. Contracts cite specs/Reading.antt and Shown.antt.
 #![tactic(auto)]
 
-ghost use Rattle.std.specs.Prelude.{◌<◌, ◌≡◌, true, length};
+ghost use Rattle.std.specs.Prelude.{◌<◌, ◌≡◌, ◌↔◌, IsTrue, MatchOption};
+ghost use Rattle.std.proofs.Math.Option.{none, some};
 ghost use Rattle.rules.specs.Shape.{messages};
 ghost use Rattle.rules.specs.Word.{word_of};
 ghost use Rattle.rules.specs.Table.{message_with};
 ghost use Rattle.rules.specs.Symbols.{Symbols};
-ghost use Rattle.rules.specs.Refusal.{read_outcome, or_no_word};
+ghost use Rattle.rules.specs.Refusal.{read_outcome};
 ghost use Rattle.reader.specs.Reading.{reading_told};
 ghost use Rattle.reader.specs.Shown.{low_of};
 
@@ -29,65 +30,61 @@ pub fn read(h: u32, m: u32, word: &[u8]) -> Reading
     if let Judged::Refused(why) = refusals::word(h, m, word) {
         return Reading::Refused(why);
     }
-    search(h, m, word)
+    match (Received { h, m, word }).search() {
+        Some(message) => Reading::Found(message),
+        None => Reading::Refused(Refusal::NoWord),
+    }
 }
 
-// Tries the label that the symbols show with each path in use.
-fn search(h: u32, m: u32, word: &[u8]) -> Reading
-    requires { Symbols h m word.now }
-    ensures { reading_told result ≡ or_no_word (message_with h m word.now) }
-{
-    let step = shape::power(h * (m + 1));
-    let uses = shape::power(shape::path_bits(m));
-    let mut label = low(h, m, word);
-    let mut n = 0;
-    while n < uses {
-        let message = shape::message_of(h, m, label);
-        if is_word(h, m, message, word) {
-            return Reading::Found(message);
+// Symbols that could be a word: as many as the shape has places, each below 2^h.
+#[derive(Clone, Copy)]
+struct Received<'a> {
+    h: u32,
+    m: u32,
+    word: &'a [u8],
+    ghost symbols: { Symbols h m word.now },
+}
+
+impl<'a> Received<'a> {
+    // The message whose word the symbols are: tries the label that they show with each path in use.
+    fn search(&self) -> Option<MessageNumber>
+        ensures { MatchOption result (message_with self.now.h self.now.m self.now.word.now ≡ none)
+            (λ g. message_with self.now.h self.now.m self.now.word.now ≡ some g.0) }
+    {
+        let step = shape::power(self.h * (self.m + 1));
+        let uses = shape::power(shape::path_bits(self.m));
+        let low = self.low();
+        for n in 0..uses {
+            let message = shape::message_of(self.h, self.m, n * step + low);
+            if self.is_word(message) {
+                return Some(message);
+            }
         }
-        label += step;
-        n += 1;
+        None
     }
-    Reading::Refused(Refusal::NoWord)
-}
 
-// Whether the symbols are the message's word.
-fn is_word(h: u32, m: u32, message: MessageNumber, word: &[u8]) -> bool
-    requires symbols { Symbols h m word.now }
-    requires message_bound { message.0 < messages h m }
-    ensures { (result ≡ true → word_of h m message.0 ≡ word.now)
-        × (word_of h m message.0 ≡ word.now → result ≡ true) }
-{
-    let mut buffer = [0u8; PLACES];
-    let n = word.len();
-    compare(h, m, message, &mut buffer[..n], word)
-}
-
-// The same, with a buffer as long as the word to write the message's word to.
-fn compare(h: u32, m: u32, message: MessageNumber, buffer: &mut [u8], word: &[u8]) -> bool
-    requires symbols { Symbols h m word.now }
-    requires message_bound { message.0 < messages h m }
-    requires buffer_len { length buffer.old ≡ length word.now }
-    ensures { (result ≡ true → word_of h m message.0 ≡ word.now)
-        × (word_of h m message.0 ≡ word.now → result ≡ true) }
-{
-    encoder::encode(h, m, message, buffer);
-    check::same(buffer, word)
-}
-
-// The label number that the symbols show, with path number 0.
-fn low(h: u32, m: u32, word: &[u8]) -> u64
-    requires { Symbols h m word.now }
-    ensures { result ≡ low_of h m word.now }
-{
-    let q = shape::power(h);
-    let mut number = 0;
-    let mut k = 0;
-    while k < m {
-        k += 1;
-        let at = shape::power(m - k) as usize;
-        number = number * q + shape::minus(q, word[at], word[0]);
+    // Whether the symbols are the message's word. Encode refuses nothing here: shape, length and message are in order.
+    fn is_word(&self, message: MessageNumber) -> bool
+        requires { message.0 < messages self.now.h self.now.m }
+        ensures { IsTrue result ↔ (word_of self.now.h self.now.m message.0 ≡ self.now.word.now) }
+    {
+        let n = self.word.len();
+        let mut buffer = [0u8; PLACES];
+        let out = &mut buffer[..n];
+        let _ = encoder::encode(self.h, self.m, message, out);
+        &*out == self.word
     }
-    number * q + shape::wide(word[0])
+
+    // The label number that the symbols show, with path number 0.
+    fn low(&self) -> u64
+        ensures { result ≡ low_of self.now.h self.now.m self.now.word.now }
+    {
+        let q = shape::power(self.h);
+        let mut number = 0;
+        for k in 0..self.m {
+            let at = shape::power(self.m - 1 - k) as usize;
+            number = number * q + shape::minus(q, self.word[at], self.word[0]);
+        }
+        number * q + u64::from(self.word[0])
+    }
 }

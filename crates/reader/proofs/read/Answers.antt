@@ -1,6 +1,6 @@
 -- `reader::read` meets its contract: it answers what the question about it refuses, and else what the search finds.
 -- Assumes nothing.
-use mathlib.Core.Path.{◌≡◌, sym, ◌∙◌, ap}
+use mathlib.Core.Path.{◌≡◌, refl, sym, ◌∙◌, ap}
 use Rattle.rules.specs.Outcome.{allowed}
 use Rattle.rules.specs.Refusal.{word_refusal, read_outcome}
 use Rattle.rules.proofs.OutcomeLaws.{and_then_refused}
@@ -19,11 +19,13 @@ unfolding read_outcome
 returns-in-Refused c =
     and_then_refused _ (sym (ap judged_told c.in-Refused.is) ∙ c.word.ensures)
 
-pub returns : goal.returns
-unfolding read_outcome
-returns c =
-    rw (free (goal.at.returns c).In_default) c.search.ensures
+pub invariant_of-search : goal.invariant_of-search
+invariant_of-search c = record { symbols = word_taken _ _ _ (free (goal.at.invariant_of-search c).In_default) }
 
-pub search-requires : goal.search-requires
-search-requires c =
-    word_taken _ _ _ (free (goal.at.search-requires c).In_default)
+pub returns-in-Some : goal.returns-in-Some
+unfolding read_outcome
+returns-in-Some c = rw (free (goal.at.returns-in-Some c).In_default, c.in-Some.ensures) refl
+
+pub returns-in-None : goal.returns-in-None
+unfolding read_outcome
+returns-in-None c = rw (free (goal.at.returns-in-None c).In_default, c.in-None.ensures) refl

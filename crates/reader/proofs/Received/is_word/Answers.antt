@@ -1,0 +1,42 @@
+-- `Received::is_word` meets its contract: encode writes the message's word to the front of the buffer, which has room
+-- for it, and the two lists are compared.
+-- Assumes nothing.
+use Prim.Native.Nat.{ℕ, ◌≤◌}
+use native.Mathlib.Omega.{arith}
+use mathlib.Core.Path.{sym, ◌∙◌}
+use mathlib.Core.List.{List}
+use lib.ListN.{length, replicate}
+use lib.Seq.{length-take-le}
+use Rattle.std.proofs.lemmas.Bool.Decides.{Decides-eqb}
+use Rattle.std.proofs.lemmas.Slice.Eq.{slice_eq-Decides}
+use Rattle.rules.specs.Shape.{greatest_m, carriers}
+use Rattle.rules.proofs.Range.{in_shape_range, carriers_most}
+use Rattle.rules.proofs.RefusalLaws.{send_allowed}
+use Rattle.encoder.proofs.SentLaws.{sent_word}
+use Rattle.reader.proofs.Received.is_word.Goals.{Start}
+use Rattle.reader.proofs.Received.is_word.Goals as goal
+
+-- the buffer as it starts
+abbrev zeros : List ℕ
+zeros = replicate (carriers greatest_m) 0
+
+fits : (c : Start) → length c.args.self.now.word.now ≤ carriers greatest_m
+fits c =
+    let symbols = c.args.self.now.symbols in
+    omega (arith, symbols.long, carriers_most c.args.self.now.h c.args.self.now.m (in_shape_range _ _ symbols.shape))
+
+pub slice_bounds-buffer-end : goal.slice_bounds-buffer-end
+slice_bounds-buffer-end c = fits (goal.at.slice_bounds-buffer-end c).Start
+
+pub slice_bounds-out-end : goal.slice_bounds-out-end
+slice_bounds-out-end c = sym (length-take-le _ zeros (fits (goal.at.slice_bounds-out-end c).Start))
+
+pub returns : goal.returns
+returns c =
+    let symbols = c.args.self.now.symbols in
+    let long = length-take-le _ zeros (fits (goal.at.returns c).Start) in
+    let sent = sent_word c.encode.ensures
+    (send_allowed c.args.self.now.h c.args.self.now.m _ _
+    (record { shape = symbols.shape; long = long ∙ symbols.long; message = c.requires })) in
+    let same = slice_eq-Decides Decides-eqb _ _ _ c.eq.ensures in
+    (λ t. sym sent ∙ same.0 t, λ e. same.1 (sent ∙ e))
