@@ -51,7 +51,8 @@ abbrev pub differs_by : ℕ → ℕ → ℕ × ℕ → Bool
 differs_by q d p = eqb (minus q p.1 p.0) d
 
 pub phase_count_is : (h u k : ℕ) (w : List ℕ) →
-    length (filter (differs_by (phases h) (k % phases h)) (zip (drop u w) w)) ≡ phase_count h (length w) (symbol_at w) u k
+    length (filter (differs_by (phases h) (k % phases h)) (zip (drop u w) w))
+    ≡ phase_count h (length w) (symbol_at w) u k
 unfolding phase_count
 phase_count_is h u k w =
     let at : (i : ℕ) → get_or (drop u w) i 0 ≡ symbol_at w (i + u) = λ i.

@@ -27,7 +27,8 @@ use Rattle.rules.specs.Word.{word_at, word_of}
 use Rattle.rules.specs.Pair.{minus}
 use Rattle.rules.specs.Word.{symbol_at}
 use Rattle.rules.specs.Table.{message_with}
-use Rattle.rules.proofs.Range.{InRange, in_shape_range, range_in_m, coefficient_bits_le, messages_most, phases_pow, phases_most}
+use Rattle.rules.proofs.Range.{InRange, in_shape_range, range_in_m, coefficient_bits_le, messages_most}
+use Rattle.rules.proofs.Range.{phases_pow, phases_most}
 use Rattle.rules.proofs.Differences.{minus_lt}
 use Rattle.places.proofs.Digits.{one_lt}
 use Rattle.words.proofs.Labels.{number_of, number_of_lt, number_of_back, label_path_lt}

@@ -1,6 +1,6 @@
 -- The loop over the stages, as a record of what stands after k of them, and its turns.
--- In order: what stands; the stride halves; after the last stage; before the first; the stride of the next; a turn after an even number of
--- stages, and after an odd one: what the stage may read, and what stands then.
+-- In order: what stands; the stride halves; after the last stage; before the first; the stride of the next; a turn
+-- after an even number of stages, and after an odd one: what the stage may read, and what stands then.
 -- Not here: which area holds which stage (Stages).  Assumes nothing.
 use Prim.Native.Nat.{ℕ, suc, ◌+◌, ◌-◌, ◌/◌, ◌%◌, ◌^◌, ◌≤◌, ◌<◌}
 use native.Mathlib.Nat.{sub-zero, pow-suc}

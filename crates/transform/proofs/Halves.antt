@@ -1,6 +1,6 @@
 -- What a stage writes in the two halves of a block of 2 s entries, and where blocks begin.
--- In order: the greatest stride; the first block, the next, the last; the first half, and the second; a loop over a block that writes both
--- halves (`Halved`): before it, a turn, its end.
+-- In order: the greatest stride; the first block, the next, the last; the first half, and the second; a loop over a
+-- block that writes both halves (`Halved`): before it, a turn, its end.
 -- Not here: stages one after another (Stages).  Assumes nothing.
 use Prim.Native.Nat.{ℕ, zero, suc, ◌+◌, ◌-◌, ◌*◌, ◌/◌, ◌%◌, ◌^◌, ◌≤◌, ◌<◌}
 use native.Mathlib.Nat.{add-div_right, suc-mul, zero-mul}

@@ -13,14 +13,17 @@ loop-i-init g c = halved_none _ _ _ _
 
 pub loop-i-preserved : goal.loop-i-preserved
 loop-i-preserved g c =
+    let s = g.row.S in
     let i = c.loop-i.i in
     let from : c.args.p ≤ i = c.loop-i.auto.i in
     let y = entry c.args.from.now in
     let first = c.requires.small i (omega (arith, c.loop-i-test.true)) in
-    let second = c.requires.small (i + g.row.S) (omega (arith, c.loop-i-test.true)) in
+    let second = c.requires.small (i + s) (omega (arith, c.loop-i-test.true)) in
     halved_turn c.loop-i.invariant from c.loop-i-test.true c.requires.fits
-    (sum_back (y i) (y (i + g.row.S)) first second ∙ sym (butterfly_first g.row.S c.args.p c.requires.begins y i from c.loop-i-test.true))
-    (difference_back (y i) (y (i + g.row.S)) first second ∙ sym (butterfly_second g.row.S c.args.p c.requires.begins y i from c.loop-i-test.true))
+    (sum_back (y i) (y (i + s)) first second
+    ∙ sym (butterfly_first s c.args.p c.requires.begins y i from c.loop-i-test.true))
+    (difference_back (y i) (y (i + s)) first second
+    ∙ sym (butterfly_second s c.args.p c.requires.begins y i from c.loop-i-test.true))
 
 pub returns : goal.returns
 returns g c = halved_all c.loop-i.invariant c.requires.fits c.loop-i-test.false

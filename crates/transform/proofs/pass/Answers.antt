@@ -40,4 +40,5 @@ returns g c =
 pub returns-2 : goal.returns-2
 returns-2 g c =
     let inside = start_le _ _ _ c.loop-p.invariant.0 c.requires.readable.blocks c.loop-p-test.true in
-    fills_end _ _ _ (c.loop-p.p + g.row.S + g.row.S) _ (fills_trans c.loop-p.invariant.2 c.block.ensures) (omega (arith, inside))
+    fills_end _ _ _ (c.loop-p.p + g.row.S + g.row.S) _ (fills_trans c.loop-p.invariant.2 c.block.ensures)
+    (omega (arith, inside))

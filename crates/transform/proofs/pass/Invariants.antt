@@ -8,4 +8,5 @@ use Rattle.transform.specs.Butterflies.{butterfly, Start}
 use Rattle.transform.proofs.pass.Given as goal
 
 abbrev pub invariant-loop-p : goal.invariant-loop-p
-invariant-loop-p g l = Start g.row.S l.p × (l.p ≤ l.n) × Fills (butterfly g.row.S (entry l.from)) l.initial.to 0 l.to l.p
+invariant-loop-p g l =
+    Start g.row.S l.p × (l.p ≤ l.n) × Fills (butterfly g.row.S (entry l.from)) l.initial.to 0 l.to l.p

@@ -1,4 +1,4 @@
--- `transform::stage` meets its contract: each arm runs the stage of the stride that it names, and the last the greatest.
+-- `transform::stage` meets its contract: each arm runs the stage of the stride that it names, the last of the greatest.
 -- Assumes nothing.
 use native.Mathlib.Omega.{arith}
 use mathlib.Core.Path.{◌≡◌}

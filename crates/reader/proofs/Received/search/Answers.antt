@@ -23,9 +23,10 @@ uses_is c = c.power-uses.ensures ∙ power_uses c.args.self.now.m _ c.path_bits.
 label_is : (c : At-loop-n) → c.loop-n.n * c.power-step.result + c.low-low.result
     ≡ label_with c.args.self.now.h c.args.self.now.m c.args.self.now.word.now c.loop-n.n
 label_is c =
-    let pair = c.args.self.now in
-    label_with_of pair.h pair.m pair.word.now c.loop-n.n _ _
-    (c.power-step.ensures ∙ power_labels pair.h pair.m (in_shape_range pair.h pair.m pair.symbols.shape)) c.low-low.ensures
+    let said = c.args.self.now in
+    let range = in_shape_range said.h said.m said.symbols.shape in
+    label_with_of said.h said.m said.word.now c.loop-n.n _ _
+    (c.power-step.ensures ∙ power_labels said.h said.m range) c.low-low.ensures
 
 -- the path is in use
 used : (c : In-loop-n) → c.loop-n.n < paths_in_use c.args.self.now.m
@@ -44,8 +45,9 @@ message_lt : (c : After-message_of-message) →
     c.message_of-message.result.0 < messages c.args.self.now.h c.args.self.now.m
 message_lt c =
     let said = c.args.self.now in
-    let tried = tried_lt said.h said.m said.word.now said.symbols c.loop-n.n (used (goal.at.is_word-requires c).In-loop-n) in
-    subst (λ (g : ℕ). g < messages said.h said.m) (sym (message_is c)) tried
+    let b = used (goal.at.is_word-requires c).In-loop-n in
+    subst (λ (g : ℕ). g < messages said.h said.m) (sym (message_is c))
+    (tried_lt said.h said.m said.word.now said.symbols c.loop-n.n b)
 
 pub overflow_mul-n : goal.overflow_mul-n
 overflow_mul-n c =
@@ -77,9 +79,9 @@ returns-then-is_word c =
 pub loop-n-preserved : goal.loop-n-preserved
 loop-n-preserved c =
     let said = c.args.self.now in
+    let tried = ap (word_of said.h said.m) (message_is (goal.at.loop-n-preserved c).After-message_of-message) in
     below_more _ _ c.loop-n.invariant
-    (λ e. false≢true (sym c.if-is_word.false
-    ∙ c.is_word.ensures.1 (ap (word_of said.h said.m) (message_is (goal.at.loop-n-preserved c).After-message_of-message) ∙ e)))
+    (λ e. false≢true (sym c.if-is_word.false ∙ c.is_word.ensures.1 (tried ∙ e)))
 
 pub returns : goal.returns
 returns c =
