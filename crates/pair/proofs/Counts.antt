@@ -1,16 +1,16 @@
--- Laws of phase_count, and of what chains of iterators give. In order: a bound; a test of all numbers of a range; a
--- count over two lists side by side; over a word and the same word from u on.
+-- Laws of phase_count, and of what chains of iterators over a range give. In order: a bound; a test of all numbers of a
+-- range; a count of those that pass; the count of phase_count.
 -- Assumes nothing.
 use Prim.Native.Nat.{ℕ, zero, suc, ◌+◌, ◌-◌, ◌%◌, ◌≤◌}
-use native.Mathlib.Nat.{le_trans, sub-le}
+use native.Mathlib.Nat.{le_trans, sub-le, zero-add}
 use native.Mathlib.Omega.{arith}
 use mathlib.Core.Path.{◌≡◌, refl, ◌∙◌, ap, ap₂}
-use mathlib.Core.Bool.{Bool, true, false, cond, ◌&&◌}
-use mathlib.Core.List.{List, [], ◌∷◌}
+use mathlib.Core.Bool.{Bool, ◌&&◌}
+use mathlib.Core.List.{List}
 use lib.Dec.{eqb}
-use lib.ListN.{length, get_or, drop, length-drop}
-use lib.Seq.{get_or-drop}
-use Rattle.std.specs.List.{range_with_len, list_all, zip, filter}
+use lib.ListN.{length}
+use Rattle.std.specs.List.{range_with_len, list_all, fold}
+use Rattle.std.proofs.Common.{map}
 use Rattle.range.specs.Below.{sum_below, count_below, all_below, one_if}
 use Rattle.range.proofs.Sums.{count_below_le}
 use Rattle.rules.specs.Shape.{phases}
@@ -31,34 +31,30 @@ list_all_range a (suc n) f g e =
     let next : (i : ℕ) → a + 1 + i ≡ a + suc i = λ i. omega arith in
     ap₂ ◌&&◌ (ap f here ∙ e zero) (list_all_range (a + 1) n f (λ i. g (suc i)) (λ i. ap f (next i) ∙ e (suc i)))
 
--- what a test keeps of a list, one element more
-length_kept : {A : Type 0} (x : A) (b : Bool) (xs : List A) → length (cond b (x ∷ xs) xs) ≡ one_if b + length xs
-length_kept x true xs = omega arith
-length_kept x false xs = omega arith
-
-count_zip : (test : ℕ × ℕ → Bool) (xs ys : List ℕ) (f : ℕ → Bool) → length xs ≤ length ys →
-    ((i : ℕ) → test (get_or xs i 0, get_or ys i 0) ≡ f i) → length (filter test (zip xs ys)) ≡ count_below (length xs) f
+-- the numbers of a range that pass a test, counted one by one on top of c
+sum_range : (a n c : ℕ) (test f : ℕ → Bool) → ((i : ℕ) → test (a + i) ≡ f i) →
+    fold ◌+◌ c (map (λ j. one_if (test j)) (range_with_len a n)) ≡ c + count_below n f
 unfolding count_below sum_below
-count_zip test [] ys f l e = refl
-count_zip test (x ∷ xs) [] f l e = absurd (omega (arith, l))
-count_zip test (x ∷ xs) (y ∷ ys) f l e =
-    length_kept (x, y) (test (x, y)) (filter test (zip xs ys))
-    ∙ ap₂ (λ (i j : ℕ). i + j) (ap one_if (e zero))
-    (count_zip test xs ys (λ i. f (suc i)) (omega (arith, l)) (λ i. e (suc i)))
+sum_range a zero c test f e = omega arith
+sum_range a (suc n) c test f e =
+    let here : a ≡ a + zero = omega arith in
+    let next : (i : ℕ) → a + 1 + i ≡ a + suc i = λ i. omega arith in
+    let first : one_if (test a) ≡ one_if (f zero) = ap one_if (ap test here ∙ e zero) in
+    let rest = sum_range (a + 1) n (c + one_if (test a)) test (λ i. f (suc i)) (λ i. ap test (next i) ∙ e (suc i)) in
+    omega (arith, rest, first)
 
--- a symbol b, u places behind a, counts where a - b is d
-abbrev pub differs_by : ℕ → ℕ → ℕ × ℕ → Bool
-differs_by q d p = eqb (minus q p.1 p.0) d
+-- the symbol at j counts where that u places before it is d more
+abbrev pub more_by : ℕ → List ℕ → ℕ → ℕ → ℕ → Bool
+more_by q w u d j = eqb (minus q (symbol_at w (j - u)) (symbol_at w j)) d
 
 pub phase_count_is : (h u k : ℕ) (w : List ℕ) →
-    length (filter (differs_by (phases h) (k % phases h)) (zip (drop u w) w))
+    fold ◌+◌ 0 (map (λ j. one_if (more_by (phases h) w u (k % phases h) j)) (range_with_len u (length w - u)))
     ≡ phase_count h (length w) (symbol_at w) u k
 unfolding phase_count
 phase_count_is h u k w =
-    let at : (i : ℕ) → get_or (drop u w) i 0 ≡ symbol_at w (i + u) = λ i.
-    let turned : u + i ≡ i + u = omega arith in
-    get_or-drop u w i 0 ∙ ap (symbol_at w) turned in
-    let f : ℕ → Bool = λ i. eqb (minus (phases h) (symbol_at w i) (symbol_at w (i + u))) (k % phases h) in
-    count_zip (differs_by (phases h) (k % phases h)) (drop u w) w f (omega (arith, length-drop u w))
-    (λ i. ap (λ (b : ℕ). eqb (minus (phases h) (symbol_at w i) b) (k % phases h)) (at i))
-    ∙ ap (λ (n : ℕ). count_below n f) (length-drop u w)
+    let pair : ℕ → ℕ → Bool = λ i j. eqb (minus (phases h) (symbol_at w i) (symbol_at w j)) (k % phases h) in
+    let back : (i : ℕ) → u + i - u ≡ i = λ i. omega arith in
+    let turned : (i : ℕ) → u + i ≡ i + u = λ i. omega arith in
+    sum_range u (length w - u) 0 (more_by (phases h) w u (k % phases h)) (λ i. pair i (i + u))
+    (λ i. ap₂ pair (back i) (turned i))
+    ∙ zero-add _

@@ -72,16 +72,15 @@ impl<'a> Pair<'a> {
         self.count(self.first, u, k) + self.count(self.second, u, k)
     }
 
-    // How many places of the word have a symbol that is k more, modulo 2^h, than the symbol u places on.
+    // How many places of the word have a symbol that is k more, modulo 2^h, than the symbol u places on, which is at j.
+    // The sum has no branch to be guessed: with `filter` and `count` the check takes twice as long.
     fn count(&self, word: &[u8], u: usize, k: u64) -> usize
         ensures { result ≡ phase_count self.now.h (length word.now) (symbol_at word.now) u k }
     {
         let q = shape::power(self.h);
         let k = k % q;
-        word.iter()
-            .skip(u)
-            .zip(word)
-            .filter(|&(b, a)| shape::minus(q, *a, *b) == k)
-            .count()
+        (u..word.len())
+            .map(|j| usize::from(shape::minus(q, word[j - u], word[j]) == k))
+            .sum()
     }
 }

@@ -1,26 +1,38 @@
--- `Pair::count` meets its contract: what is counted is the word beside the same word from u on.
+-- `Pair::count` meets its contract: each symbol from u on is tested with the one u places before it.
 -- Assumes nothing.
-use Prim.Native.Nat.{◌%◌}
+use Prim.Native.Nat.{◌+◌, ◌-◌, ◌%◌, ◌^◌}
 use native.Mathlib.Omega.{arith}
-use mathlib.Core.Path.{◌≡◌, ◌∙◌}
+use mathlib.Core.Path.{◌≡◌, refl, ◌∙◌}
 use borrow.Author.Tests.{tests}
+use lib.ListN.{length}
 use Rattle.std.proofs.Common.{rules}
-use Rattle.std.proofs.lemmas.Iterator.{YieldsList-from_slice, YieldsList-from_zip}
-use Rattle.std.proofs.lemmas.Iterator.Adapters.{YieldsList-from_skip}
-use Rattle.std.proofs.lemmas.Iterator.Consumers.{YieldsList-from_filter, count_from_yields_List}
+use Rattle.std.proofs.lemmas.Iterator.{YieldsList-from_range, YieldsList-from_map}
+use Rattle.std.proofs.lemmas.Iterator.Adapters.{fits_from_length, at_most_from_yields_List, total_from_yields_List}
+use Rattle.std.proofs.lemmas.List.FromFn.{length-range_with_len}
+use Rattle.range.specs.Below.{one_if}
 use Rattle.rules.specs.Shape.{phases}
 use Rattle.shape.proofs.Powers.{power_is}
-use Rattle.pair.proofs.Counts.{differs_by, phase_count_is}
+use Rattle.pair.proofs.Counts.{more_by, phase_count_is}
 use Rattle.pair.proofs.Pair.count.Goals as goal
+
+pub sum-requires-clause-fits : goal.sum-requires-clause-fits
+sum-requires-clause-fits c =
+    let n = length c.args.word.now in
+    let u = c.args.u in
+    fits_from_length _ _ (2 ^ 64 - 1) _
+    (at_most_from_yields_List (YieldsList-from_range u n (n - u) (cc) refl)
+    (omega (arith, length-range_with_len u (n - u))))
+    c.map.ensures.closure (omega arith) (λ x r q k. search (rules, tests))
 
 pub returns : goal.returns
 returns c =
     let h = c.args.self.now.h in
     let w = c.args.word.now in
+    let u = c.args.u in
     let q = c.power-q.result in
     let q_is : q ≡ phases h = c.power-q.ensures ∙ power_is _ (omega (arith, c.args.self.now.words.h_most)) in
-    count_from_yields_List _ _ c.count.ensures.ran
-    (YieldsList-from_filter _ (differs_by q (c.args.k % q))
-    (YieldsList-from_zip (YieldsList-from_skip c.args.u (YieldsList-from_slice w cc) cc) (YieldsList-from_slice w cc))
-    c.filter.ensures.closure (λ x b q k. search (rules, tests)))
-    ∙ rw q_is (phase_count_is h c.args.u c.args.k w)
+    total_from_yields_List ◌+◌ 0 _ c.sum.ensures.ran
+    (YieldsList-from_map _ (λ j. one_if (more_by q w u (c.args.k % q) j))
+    (YieldsList-from_range u (length w) (length w - u) (cc) refl)
+    c.map.ensures.closure (λ x r f k. search (rules, tests)))
+    ∙ rw q_is (phase_count_is h u c.args.k w)
