@@ -18,9 +18,8 @@ ghost use Rattle.totals.specs.Gains.{raise_by, raised, soft_gain, hard_gain, nea
 ghost use Rattle.standing.specs.Lead.{tied_of};
 ghost use Rattle.engine.specs.Search.{greatest_decoded};
 
-use answers::{Closest, Heard, Loudest, Matched};
+use answers::{Closest, Found, Heard, Loudest, Matched};
 use engine::GREATEST_DECODED;
-use kinds::Judged;
 use shape::PLACES;
 use standing::Standing;
 
@@ -36,12 +35,10 @@ const RAISE_BY: i32 = 32768;
 pub fn soft(h: u32, m: u32, values: &[i16]) -> Heard
     ensures { Hears h m values.now result }
 {
-    if let Judged::Refused(why) = refusals::soft(h, m, values) {
-        return Heard::Refused(why);
-    }
+    refusals::soft(h, m, values)?;
     let mut gains = [0u32; GAINS];
     let n = gains_of(h, m);
-    Heard::Found(hear(h, m, values, &mut gains[..n]))
+    Ok(hear(h, m, values, &mut gains[..n]))
 }
 
 // The message of the word nearest to the symbols, its distance, and whether another word has it too. Refuses 1 a shape
@@ -50,12 +47,10 @@ pub fn soft(h: u32, m: u32, values: &[i16]) -> Heard
 pub fn hard(h: u32, m: u32, word: &[u8]) -> Matched
     ensures { Matches h m word.now result }
 {
-    if let Judged::Refused(why) = refusals::hard(h, m, word) {
-        return Matched::Refused(why);
-    }
+    refusals::hard(h, m, word)?;
     let mut gains = [0u32; GAINS];
     let n = gains_of(h, m);
-    Matched::Found(weigh(h, m, word, &mut gains[..n]))
+    Ok(weigh(h, m, word, &mut gains[..n]))
 }
 
 // How many gains the table of a shape has; the greatest table has room for them.
@@ -161,12 +156,12 @@ fn hard_gain(q: u64, a: u8, s: u8) -> u32
 fn as_correlation(h: u32, m: u32, st: Standing) -> Loudest
     requires { (in_shape h m ≡ true) × (st.best ≤ carriers greatest_m * (2 * raise_by)) }
     ensures { (result.message.0 ≡ message_of h m st.label)
-        × (result.correlation ≡ pos st.best -ℤ pos (carriers m * raise_by)) × (result.tied ≡ tied_of st) }
+        × (result.value ≡ pos st.best -ℤ pos (carriers m * raise_by)) × (result.tied ≡ tied_of st) }
 {
     let n = shape::power(m) as i32;
-    Loudest {
+    Found {
         message: shape::message_of(h, m, st.label),
-        correlation: st.best as i32 - n * RAISE_BY,
+        value: st.best as i32 - n * RAISE_BY,
         tied: st.best == st.second,
     }
 }
@@ -176,12 +171,12 @@ fn as_correlation(h: u32, m: u32, st: Standing) -> Loudest
 fn as_distance(h: u32, m: u32, led: Standing) -> Closest
     requires { (in_shape h m ≡ true) × (led.best ≤ carriers m * half_turn h) }
     ensures { (result.message.0 ≡ message_of h m led.label)
-        × (result.distance ≡ carriers m * half_turn h - led.best) × (result.tied ≡ tied_of led) }
+        × (result.value ≡ carriers m * half_turn h - led.best) × (result.tied ≡ tied_of led) }
 {
     let most = shape::power(h - 1 + m) as u32;
-    Closest {
+    Found {
         message: shape::message_of(h, m, led.label),
-        distance: most - led.best,
+        value: most - led.best,
         tied: led.best == led.second,
     }
 }

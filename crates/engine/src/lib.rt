@@ -147,7 +147,7 @@ fn own_word(h: u32, m: u32, label: u64, word: &mut [u8])
     ensures { word.new ≡ list_below (carriers m) (word_at h m label) }
 {
     let message: MessageNumber = shape::message_of(h, m, label);
-    encoder::encode(h, m, message, word);
+    encoder::encode(h, m, message, word).unwrap();
 }
 
 // The first table, at the front of x.

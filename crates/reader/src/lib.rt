@@ -12,28 +12,16 @@ ghost use Rattle.rules.specs.Refusal.{read_outcome};
 ghost use Rattle.reader.specs.Reading.{reading_told};
 ghost use Rattle.reader.specs.Shown.{low_of};
 
-use kinds::{Judged, MessageNumber, Refusal};
+use kinds::{MessageNumber, Refusal};
 use shape::PLACES;
-
-// The answer of word reading.
-#[derive(Clone, Copy)]
-pub enum Reading {
-    Found(MessageNumber),
-    Refused(Refusal),
-}
 
 // The message whose word the symbols are exactly. Refuses 1 a shape out of range, 2 a word that is not N long, 3 a
 // symbol that is 2^h or more, with the first such place, 5 symbols that are no message's word. The word is only read.
-pub fn read(h: u32, m: u32, word: &[u8]) -> Reading
+pub fn read(h: u32, m: u32, word: &[u8]) -> Result<MessageNumber, Refusal>
     ensures { reading_told result ≡ read_outcome h m word.now }
 {
-    if let Judged::Refused(why) = refusals::word(h, m, word) {
-        return Reading::Refused(why);
-    }
-    match (Received { h, m, word }).search() {
-        Some(message) => Reading::Found(message),
-        None => Reading::Refused(Refusal::NoWord),
-    }
+    refusals::word(h, m, word)?;
+    (Received { h, m, word }).search().ok_or(Refusal::NoWord)
 }
 
 // Symbols that could be a word: as many as the shape has places, each below 2^h.
@@ -71,7 +59,7 @@ impl<'a> Received<'a> {
         let n = self.word.len();
         let mut buffer = [0u8; PLACES];
         let out = &mut buffer[..n];
-        let _ = encoder::encode(self.h, self.m, message, out);
+        encoder::encode(self.h, self.m, message, out).unwrap();
         &*out == self.word
     }
 

@@ -1,10 +1,10 @@
-// The ranges of h and m, and the numbers that a shape gives, as code.
+// The ranges of h and m, a shape as a type, and the numbers that it gives, as code.
 // No function here has a requires: each says what it gives for every number that it takes.
 // The greatest h, the greatest m and the table w stand here alone; their definitions are in rules, specs/Shape.antt.
 #![tactic(auto)]
 
 ghost use Rattle.std.specs.Prelude.{◌^◌, min, ◌≡◌, true, false, cond, ltb};
-ghost use Rattle.rules.specs.Shape.{path_bits, in_m, in_shape};
+ghost use Rattle.rules.specs.Shape.{path_bits, in_m, in_shape, phases, half_turn, carriers, paths_in_use};
 ghost use Rattle.rules.specs.Label.{label_of, message_of};
 ghost use Rattle.rules.specs.Pair.{minus};
 
@@ -24,36 +24,67 @@ pub const PLACES: usize = 1 << STEPS;
 
 const PATH_BITS: [u32; STEPS - 1] = [0, 1, 3, 5];
 
+// h and m in their ranges.
+#[derive(Clone, Copy, Debug, PartialEq, Eq, Hash)]
+pub struct Shape {
+    pub h: u32,
+    pub m: u32,
+    ghost in_range: { in_shape h m ≡ true },
+}
+
+impl Shape {
+    // How many phases there are, half of them, how many carriers, and how many paths in use.
+    pub fn phases(self) -> u64
+        ensures { result ≡ phases self.h }
+    {
+        power(self.h)
+    }
+
+    pub fn half_turn(self) -> u64
+        ensures { result ≡ half_turn self.h }
+    {
+        power(self.h - 1)
+    }
+
+    pub fn carriers(self) -> usize
+        ensures { result ≡ carriers self.m }
+    {
+        power(self.m) as usize
+    }
+
+    pub fn paths_in_use(self) -> u64
+        ensures { result ≡ paths_in_use self.m }
+    {
+        power(path_bits(self.m))
+    }
+}
+
 // Whether h and m are in their ranges.
 pub fn in_shape(h: u32, m: u32) -> bool
     ensures { result ≡ in_shape h m }
 {
-    1 <= h && (h <= GREATEST_H && in_m(m))
+    (1..=GREATEST_H).contains(&h) && in_m(m)
 }
 
 // Whether m is in its range: all that the transform asks of a shape.
 pub fn in_m(m: u32) -> bool
     ensures { result ≡ in_m m }
 {
-    2 <= m && m <= GREATEST_M
+    (2..=GREATEST_M).contains(&m)
 }
 
 // 2^e where that fits 64 bits, else 0.
 pub fn power(e: u32) -> u64
     ensures { result ≡ cond (ltb e 64) (2 ^ e) 0 }
 {
-    if e < 64 { 1u64 << e } else { 0 }
+    1u64.checked_shl(e).unwrap_or(0)
 }
 
 // w, the bits of a path number: 0 outside the table.
 pub fn path_bits(m: u32) -> u32
     ensures { result ≡ path_bits m }
 {
-    if m < 2 {
-        return 0;
-    }
-    let at = (m - 2) as usize;
-    if at < STEPS - 1 { PATH_BITS[at] } else { 0 }
+    PATH_BITS.get(m.saturating_sub(2) as usize).copied().unwrap_or(0)
 }
 
 // The label number of a message number, and back, where the shape is in range; else the number itself. Today they are
@@ -75,25 +106,19 @@ pub fn message_of(h: u32, m: u32, label: u64) -> MessageNumber
 pub fn minus(q: u64, a: u8, b: u8) -> u64
     ensures { result ≡ minus q a b }
 {
-    let x = wide(a);
-    let y = lesser(q, wide(b));
+    let x = u64::from(a);
+    let y = q.min(u64::from(b));
     if x < y {
         return x + (q - y);
     }
     let d = x - y;
     if d < q {
-        return d;
+        d
+    } else if q == 0 {
+        x
+    } else {
+        d % q
     }
-    if q == 0 {
-        return x;
-    }
-    d % q
-}
-
-fn lesser(x: u64, y: u64) -> u64
-    ensures { result ≡ min x y }
-{
-    if x < y { x } else { y }
 }
 
 // A symbol or a step as a number to count with, and as one to index with. Who calls them need not show that it fits.

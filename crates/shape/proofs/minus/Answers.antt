@@ -3,12 +3,12 @@
 use Prim.Native.Nat.{ℕ, ◌+◌, ◌-◌, ◌%◌, ◌≤◌, ◌<◌, min}
 use native.Mathlib.Nat.{mod-eq_of_lt, mod-zero, add-mod_right}
 use native.Mathlib.Omega.{arith}
-use mathlib.Core.Path.{◌≡◌, sym, ◌∙◌, ap}
+use mathlib.Core.Path.{◌≡◌, sym, ◌∙◌}
+use Rattle.std.proofs.Common.{rules}
 use Rattle.rules.specs.Pair.{minus}
-use Rattle.shape.proofs.minus.Goals.{After-lesser-y, Else-x-y, Start}
 use Rattle.shape.proofs.minus.Goals as goal
 
--- by whether a is less than q and b; modulo 0
+-- what a leaves where y of b is taken away, by whether a is less
 module _ (q a b x y : ℕ) (is-a : x ≡ a) (is-least : y ≡ min q b) where
   minus_below : x < y → x + (q - y) ≡ minus q a b
   unfolding minus
@@ -28,32 +28,16 @@ module _ (q a b x y : ℕ) (is-a : x ≡ a) (is-least : y ≡ min q b) where
       let e : a + (q - b) ≡ x = omega arith in
       rw (e, z) (sym (mod-zero x))
 
--- what is taken away: b, at most q
-abbrev start : After-lesser-y → Start
-start c = c.before.before.before
-
-least : (c : After-lesser-y) → c.lesser-y.result ≡ min (start c).args.q (start c).args.b
-least c = c.lesser-y.ensures ∙ ap (min (start c).args.q) c.wide.ensures
-
 pub returns-then-x-y : goal.returns-then-x-y
-returns-then-x-y c =
-    let at = c.before in
-    minus_below _ _ _ _ _ at.wide-x.ensures (least at) c.if-x-y.true
-
--- what a leaves, modulo q
-left : (c : Else-x-y) → let at = c.before in let args = (start at).args in
-    (at.wide-x.result - at.lesser-y.result) % args.q ≡ minus args.q args.a args.b
-left c =
-    let at = c.before in
-    minus_above _ _ _ _ _ at.wide-x.ensures (least at) c.if-x-y.false
+returns-then-x-y c = minus_below _ _ _ _ _ (search rules) (search rules) c.if-x-y.true
 
 pub returns-then-d-q : goal.returns-then-d-q
-returns-then-d-q c = sym (mod-eq_of_lt c.if-d-q.true) ∙ left c.before
+returns-then-d-q c =
+    sym (mod-eq_of_lt c.if-d-q.true) ∙ minus_above _ _ _ _ _ (search rules) (search rules) c.if-x-y.false
 
 pub returns-then-q-eq0 : goal.returns-then-q-eq0
 returns-then-q-eq0 c =
-    let at = c.before.before.before in
-    minus_none _ _ _ _ _ at.wide-x.ensures (least at) c.if-q-eq0.true
+    minus_none c.args.q c.args.a c.args.b c.from-x.result c.min-y.result (search rules) (search rules) (search rules)
 
-pub returns : goal.returns
-returns c = left c.before.before
+pub returns-else-q-eq0 : goal.returns-else-q-eq0
+returns-else-q-eq0 c = minus_above _ _ _ _ _ (search rules) (search rules) c.if-x-y.false

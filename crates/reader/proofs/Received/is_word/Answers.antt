@@ -3,17 +3,19 @@
 -- Assumes nothing.
 use Prim.Native.Nat.{ℕ, ◌≤◌}
 use native.Mathlib.Omega.{arith}
-use mathlib.Core.Path.{sym, ◌∙◌}
+use mathlib.Core.Path.{◌≡◌, sym, ◌∙◌}
 use mathlib.Core.List.{List}
-use lib.ListN.{length, replicate}
+use lib.ListN.{length, replicate, take}
 use lib.Seq.{length-take-le}
 use Rattle.std.proofs.lemmas.Bool.Decides.{Decides-eqb}
 use Rattle.std.proofs.lemmas.Slice.Eq.{slice_eq-Decides}
 use Rattle.rules.specs.Shape.{greatest_m, carriers}
+use Rattle.rules.specs.Outcome.{allowed}
+use Rattle.rules.specs.Refusal.{send_refusal}
 use Rattle.rules.proofs.Range.{in_shape_range, carriers_most}
 use Rattle.rules.proofs.RefusalLaws.{send_allowed}
-use Rattle.encoder.proofs.SentLaws.{sent_word}
-use Rattle.reader.proofs.Received.is_word.Goals.{Start}
+use Rattle.encoder.proofs.SentLaws.{sent_word, sent_ok}
+use Rattle.reader.proofs.Received.is_word.Goals.{Start, After-encode}
 use Rattle.reader.proofs.Received.is_word.Goals as goal
 
 -- the buffer as it starts
@@ -31,12 +33,25 @@ slice_bounds-buffer-end c = fits (goal.at.slice_bounds-buffer-end c).Start
 pub slice_bounds-out-end : goal.slice_bounds-out-end
 slice_bounds-out-end c = sym (length-take-le _ zeros (fits (goal.at.slice_bounds-out-end c).Start))
 
+-- nothing is refused
+free : (c : After-encode) → send_refusal c.args.self.now.h c.args.self.now.m
+    (length (take (length c.args.self.now.word.now) zeros)) c.args.message.0 ≡ allowed
+free c =
+    let symbols = c.args.self.now.symbols in
+    let fits : length c.args.self.now.word.now ≤ carriers greatest_m =
+    omega (arith, symbols.long, carriers_most c.args.self.now.h c.args.self.now.m (in_shape_range _ _ symbols.shape)) in
+    send_allowed c.args.self.now.h c.args.self.now.m _ _
+    (record {
+      shape = symbols.shape;
+      long = length-take-le _ zeros fits ∙ symbols.long;
+      message = c.requires;
+    })
+
+pub unwrap-requires : goal.unwrap-requires
+unwrap-requires c = sent_ok c.encode.ensures (free (goal.at.unwrap-requires c).After-encode)
+
 pub returns : goal.returns
 returns c =
-    let symbols = c.args.self.now.symbols in
-    let long = length-take-le _ zeros (fits (goal.at.returns c).Start) in
-    let sent = sent_word c.encode.ensures
-    (send_allowed c.args.self.now.h c.args.self.now.m _ _
-    (record { shape = symbols.shape; long = long ∙ symbols.long; message = c.requires })) in
+    let sent = sent_word c.encode.ensures (free (goal.at.returns c).After-encode) in
     let same = slice_eq-Decides Decides-eqb _ _ _ c.eq.ensures in
     (λ t. sym sent ∙ same.0 t, λ e. same.1 (sent ∙ e))
