@@ -13,7 +13,7 @@ ghost use Rattle.reader.specs.Reading.{reading_told};
 ghost use Rattle.reader.specs.Shown.{low_of};
 
 use kinds::{MessageNumber, Refusal};
-use shape::PLACES;
+use shape::{PLACES, Shape};
 
 // The message whose word the symbols are exactly. Refuses 1 a shape out of range, 2 a word that is not N long, 3 a
 // symbol that is 2^h or more, with the first such place, 5 symbols that are no message's word. The word is only read.
@@ -21,29 +21,30 @@ pub fn read(h: u32, m: u32, word: &[u8]) -> Result<MessageNumber, Refusal>
     ensures { reading_told result ≡ read_outcome h m word.now }
 {
     refusals::word(h, m, word)?;
-    (Received { h, m, word }).search().ok_or(Refusal::NoWord)
+    let shape = Shape { h, m };
+    (Received { shape, word }).search().ok_or(Refusal::NoWord)
 }
 
 // Symbols that could be a word: as many as the shape has places, each below 2^h.
 #[derive(Clone, Copy)]
 struct Received<'a> {
-    h: u32,
-    m: u32,
+    shape: Shape,
     word: &'a [u8],
-    ghost symbols: { Symbols h m word.now },
+    ghost symbols: { Symbols shape.h shape.m word.now },
 }
 
 impl<'a> Received<'a> {
     // The message whose word the symbols are: tries the label that they show with each path in use.
     fn search(&self) -> Option<MessageNumber>
-        ensures { MatchOption result (message_with self.now.h self.now.m self.now.word.now ≡ none)
-            (λ g. message_with self.now.h self.now.m self.now.word.now ≡ some g.0) }
+        ensures { MatchOption result (message_with self.now.shape.h self.now.shape.m self.now.word.now ≡ none)
+            (λ g. message_with self.now.shape.h self.now.shape.m self.now.word.now ≡ some g.0) }
     {
-        let step = shape::power(self.h * (self.m + 1));
-        let uses = shape::power(shape::path_bits(self.m));
+        let Shape { h, m } = self.shape;
+        let step = shape::power(h * (m + 1));
+        let uses = self.shape.paths_in_use();
         let low = self.low();
         for n in 0..uses {
-            let message = shape::message_of(self.h, self.m, n * step + low);
+            let message = shape::message_of(h, m, n * step + low);
             if self.is_word(message) {
                 return Some(message);
             }
@@ -53,24 +54,25 @@ impl<'a> Received<'a> {
 
     // Whether the symbols are the message's word. Encode refuses nothing here: shape, length and message are in order.
     fn is_word(&self, message: MessageNumber) -> bool
-        requires { message.0 < messages self.now.h self.now.m }
-        ensures { IsTrue result ↔ (word_of self.now.h self.now.m message.0 ≡ self.now.word.now) }
+        requires { message.0 < messages self.now.shape.h self.now.shape.m }
+        ensures { IsTrue result ↔ (word_of self.now.shape.h self.now.shape.m message.0 ≡ self.now.word.now) }
     {
         let n = self.word.len();
         let mut buffer = [0u8; PLACES];
         let out = &mut buffer[..n];
-        encoder::encode(self.h, self.m, message, out).unwrap();
+        encoder::encode(self.shape.h, self.shape.m, message, out).unwrap();
         &*out == self.word
     }
 
     // The label number that the symbols show, with path number 0.
     fn low(&self) -> u64
-        ensures { result ≡ low_of self.now.h self.now.m self.now.word.now }
+        ensures { result ≡ low_of self.now.shape.h self.now.shape.m self.now.word.now }
     {
-        let q = shape::power(self.h);
+        let q = self.shape.phases();
+        let m = self.shape.m;
         let mut number = 0;
-        for k in 0..self.m {
-            let at = shape::power(self.m - 1 - k) as usize;
+        for k in 0..m {
+            let at = shape::power(m - 1 - k) as usize;
             number = number * q + shape::minus(q, self.word[at], self.word[0]);
         }
         number * q + u64::from(self.word[0])

@@ -5,31 +5,27 @@ use native.Mathlib.Omega.{arith}
 use mathlib.Core.Path.{◌≡◌, refl, ◌∙◌, ap₂}
 use Rattle.rules.specs.Shape.{greatest_h, phases, most_coefficient_bits}
 use Rattle.rules.proofs.Range.{InRange, in_shape_range, phases_most}
-use Rattle.shape.proofs.Powers.{power_is, power_phases}
+use Rattle.shape.proofs.Powers.{power_is}
 use Rattle.places.proofs.Digits.{one_lt}
 use Rattle.reader.specs.Shown.{shown_up_to, low_of}
 use Rattle.reader.proofs.ShownLaws.{shown_lt, shown_of, shown_scaled, shown_up_to_next, first_lt}
-use Rattle.reader.proofs.Received.low.Goals.{After-power-at, After-power-q, At-loop-k}
+use Rattle.reader.proofs.Received.low.Goals.{After-power-at, After-phases-q, At-loop-k}
 use Rattle.reader.proofs.Received.low.Goals as goal
 
-ranged : (c : After-power-q) → InRange c.args.self.now.h c.args.self.now.m
+ranged : (c : After-phases-q) → InRange c.args.self.now.shape.h c.args.self.now.shape.m
 ranged c = in_shape_range _ _ c.args.self.now.symbols.shape
 
--- q is 2^h
-base : (c : After-power-q) → c.power-q.result ≡ phases c.args.self.now.h
-base c = c.power-q.ensures ∙ power_phases c.args.self.now.h c.args.self.now.m c.args.self.now.symbols.shape
-
 -- what is read so far, one base up, fits easily
-small : (c : At-loop-k) → c.loop-k.number * c.power-q.result ≤ 2 ^ most_coefficient_bits * phases greatest_h
+small : (c : At-loop-k) → c.loop-k.number * c.phases-q.result ≤ 2 ^ most_coefficient_bits * phases greatest_h
 small c =
     shown_scaled _ _ _ c.args.self.now.symbols c.loop-k.k _ _ c.loop-k.auto.k-end c.loop-k.invariant
-    (c.power-q.ensures ∙ power_phases c.args.self.now.h c.args.self.now.m c.args.self.now.symbols.shape)
+    c.phases-q.ensures
 
 -- the place of the next coefficient
-place : (c : After-power-at) → c.power-at.result ≡ 2 ^ (c.args.self.now.m - (c.loop-k.k + 1))
+place : (c : After-power-at) → c.power-at.result ≡ 2 ^ (c.args.self.now.shape.m - (c.loop-k.k + 1))
 place c =
-    let range = in_shape_range c.args.self.now.h c.args.self.now.m c.args.self.now.symbols.shape in
-    let turned : c.args.self.now.m - 1 - c.loop-k.k ≡ c.args.self.now.m - (c.loop-k.k + 1) = omega arith in
+    let range = in_shape_range c.args.self.now.shape.h c.args.self.now.shape.m c.args.self.now.symbols.shape in
+    let turned : c.args.self.now.shape.m - 1 - c.loop-k.k ≡ c.args.self.now.shape.m - (c.loop-k.k + 1) = omega arith in
     rw turned at (c.power-at.ensures ∙ power_is _ (omega (arith, range.m_most)))
 
 pub loop-k-init : goal.loop-k-init
@@ -42,28 +38,27 @@ overflow_mul-number c = omega (arith, small (goal.at.overflow_mul-number c).At-l
 pub bounds-self-at : goal.bounds-self-at
 bounds-self-at c =
     let symbols = c.args.self.now.symbols in
-    let inside = one_lt c.args.self.now.m (c.loop-k.k + 1) (omega arith) (omega (arith, c.loop-k-test.true)) in
+    let inside = one_lt c.args.self.now.shape.m (c.loop-k.k + 1) (omega arith) (omega (arith, c.loop-k-test.true)) in
     omega (arith, place (goal.at.bounds-self-at c).After-power-at, symbols.long, inside)
 
 pub overflow_add-number : goal.overflow_add-number
 overflow_add-number c =
-    let start = (goal.at.overflow_add-number c).After-power-q in
-    let next = shown_of _ c.args.self.now.m _ (c.loop-k.k + 1) _ _ _ (base start)
+    let start = (goal.at.overflow_add-number c).After-phases-q in
+    let next = shown_of _ c.args.self.now.shape.m _ (c.loop-k.k + 1) _ _ _ c.phases-q.ensures
     (place (goal.at.overflow_add-number c).After-power-at) c.minus.ensures in
     omega (
       arith,
       small (goal.at.overflow_add-number c).At-loop-k,
       next,
-      shown_lt c.args.self.now.h c.args.self.now.m c.args.self.now.word.now (c.loop-k.k + 1),
+      shown_lt c.args.self.now.shape.h c.args.self.now.shape.m c.args.self.now.word.now (c.loop-k.k + 1),
       phases_most _ _ (ranged start),
     )
 
 pub loop-k-preserved : goal.loop-k-preserved
 loop-k-preserved c =
-    let start = base (goal.at.loop-k-preserved c).After-power-q in
     ap₂ (λ (x y : ℕ). x + y)
-    (ap₂ (λ (x y : ℕ). x * y) c.loop-k.invariant start)
-    (shown_of _ c.args.self.now.m _ (c.loop-k.k + 1) _ _ _ start (place (goal.at.loop-k-preserved c).After-power-at)
+    (ap₂ (λ (x y : ℕ). x * y) c.loop-k.invariant c.phases-q.ensures)
+    (shown_of _ c.args.self.now.shape.m _ (c.loop-k.k + 1) _ _ _ c.phases-q.ensures (place (goal.at.loop-k-preserved c).After-power-at)
     c.minus.ensures)
     ∙ shown_up_to_next _ _ _ _
 
@@ -76,12 +71,12 @@ overflow_add-result c =
     omega (
       arith,
       small (goal.at.overflow_add-result c).At-loop-k,
-      phases_most _ _ (ranged (goal.at.overflow_add-result c).After-power-q),
+      phases_most _ _ (ranged (goal.at.overflow_add-result c).After-phases-q),
       first_lt _ _ _ symbols,
     )
 
 pub returns : goal.returns
 unfolding low_of
 returns c =
-    let all : c.loop-k.k ≡ c.args.self.now.m = omega arith in
-    rw (c.from.ensures, base (goal.at.returns c).After-power-q, c.loop-k.invariant, all)
+    let all : c.loop-k.k ≡ c.args.self.now.shape.m = omega arith in
+    rw (c.from.ensures, c.phases-q.ensures, c.loop-k.invariant, all)

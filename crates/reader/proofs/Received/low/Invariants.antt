@@ -5,4 +5,4 @@ use Rattle.reader.specs.Shown.{shown_up_to}
 use Rattle.reader.proofs.Received.low.Given as goal
 
 abbrev pub invariant-loop-k : goal.invariant-loop-k
-invariant-loop-k l = l.number ≡ shown_up_to l.self.h l.self.m l.self.word.now l.k
+invariant-loop-k l = l.number ≡ shown_up_to l.self.shape.h l.self.shape.m l.self.word.now l.k

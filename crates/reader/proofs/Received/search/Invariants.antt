@@ -10,7 +10,7 @@ use Rattle.reader.proofs.Received.search.Given as goal
 
 abbrev pub invariant-loop-n : goal.invariant-loop-n
 invariant-loop-n l =
-    let h = l.self.h in
-    let m = l.self.m in
+    let h = l.self.shape.h in
+    let m = l.self.shape.m in
     let w = l.self.word.now in
     (k : ℕ) → k < l.n → word_of h m (message_of h m (label_with h m w k)) ≡ w → ⊥
