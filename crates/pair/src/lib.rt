@@ -3,15 +3,16 @@
 // What the answer says in the document's terms is in specs/Paired.antt, and what is counted in rules, specs/Pair.antt.
 #![tactic(auto)]
 
-ghost use Rattle.std.specs.Prelude.{ℕ, ◌≤◌, ◌≡◌, length};
-ghost use Rattle.rules.specs.Shape.{greatest_h, carriers};
+ghost use Rattle.std.specs.Prelude.{◌≡◌, length};
+ghost use Rattle.rules.specs.Shape.{carriers};
 ghost use Rattle.rules.specs.Pair.{phase_count, pair_count, golay_pair, phases_agree};
 ghost use Rattle.rules.specs.Word.{symbol_at};
+ghost use Rattle.rules.specs.Symbols.{Symbols};
 ghost use Rattle.rules.specs.Refusal.{pair_outcome};
 ghost use Rattle.pair.specs.Paired.{paired_told};
-ghost use Rattle.pair.specs.Words.{Words};
 
 use kinds::Refusal;
+use shape::Shape;
 
 // Whether two words are a Golay pair: at every shift from 1 to N - 1 and every phase the counts of 01 agree. Refuses 1
 // a shape out of range, 2 a word that is not N long (either one), 3 a symbol that is 2^h or more: the first such place
@@ -20,39 +21,46 @@ pub fn check(h: u32, m: u32, first: &[u8], second: &[u8]) -> Result<bool, Refusa
     ensures { paired_told result ≡ pair_outcome h m first.now second.now }
 {
     refusals::pair(h, m, first, second)?;
-    Ok((Pair { h, first, second }).all_shifts())
+    let shape = Shape { h, m };
+    let pair = Pair {
+        shape,
+        first,
+        second,
+    };
+    Ok(pair.all_shifts())
 }
 
-// Two words of one length, and an h in its range: what is counted.
+// Two words of one shape: what is counted.
 #[derive(Clone, Copy)]
 struct Pair<'a> {
-    h: u32,
+    shape: Shape,
     first: &'a [u8],
     second: &'a [u8],
-    ghost words: { Words h first.now second.now },
+    ghost first_symbols: { Symbols shape.h shape.m first.now },
+    ghost second_symbols: { Symbols shape.h shape.m second.now },
 }
 
 impl<'a> Pair<'a> {
-    // Whether the counts agree at every shift from 1 to the length less 1.
+    // Whether the counts agree at every shift from 1 to N - 1.
     fn all_shifts(&self) -> bool
-        ensures { (m : ℕ) → length self.now.first.now ≡ carriers m →
-            result ≡ golay_pair self.now.h m (symbol_at self.now.first.now) (symbol_at self.now.second.now) }
+        ensures { result ≡ golay_pair self.now.shape.h self.now.shape.m (symbol_at self.now.first.now)
+            (symbol_at self.now.second.now) }
     {
-        (1..self.first.len()).all(|u| self.all_phases(u))
+        (1..self.shape.carriers()).all(|u| self.all_phases(u))
     }
 
     // Whether at shift u the count for each phase equals the count half a turn on.
     fn all_phases(&self, u: usize) -> bool
-        ensures { result ≡ phases_agree self.now.h (length self.now.first.now) (symbol_at self.now.first.now)
+        ensures { result ≡ phases_agree self.now.shape.h (carriers self.now.shape.m) (symbol_at self.now.first.now)
             (symbol_at self.now.second.now) u }
     {
-        let q = shape::power(self.h);
-        (0..q).all(|k| self.both(u, k) == self.both(u, k + q / 2))
+        let half = self.shape.half_turn();
+        (0..self.shape.phases()).all(|k| self.both(u, k) == self.both(u, k + half))
     }
 
     // The count over both words together.
     fn both(&self, u: usize, k: u64) -> usize
-        ensures { result ≡ pair_count self.now.h (length self.now.first.now) (symbol_at self.now.first.now)
+        ensures { result ≡ pair_count self.now.shape.h (carriers self.now.shape.m) (symbol_at self.now.first.now)
             (symbol_at self.now.second.now) u k }
     {
         self.count(self.first, u, k) + self.count(self.second, u, k)
@@ -61,9 +69,9 @@ impl<'a> Pair<'a> {
     // How many places of the word have a symbol that is k more, modulo 2^h, than the symbol u places on, which is at j.
     // The sum has no branch to be guessed: with `filter` and `count` the check takes twice as long.
     fn count(&self, word: &[u8], u: usize, k: u64) -> usize
-        ensures { result ≡ phase_count self.now.h (length word.now) (symbol_at word.now) u k }
+        ensures { result ≡ phase_count self.now.shape.h (length word.now) (symbol_at word.now) u k }
     {
-        let q = shape::power(self.h);
+        let q = self.shape.phases();
         let k = k % q;
         (u..word.len())
             .map(|j| usize::from(shape::minus(q, word[j - u], word[j]) == k))

@@ -22,7 +22,8 @@ pub fn read(h: u32, m: u32, word: &[u8]) -> Result<MessageNumber, Refusal>
 {
     refusals::word(h, m, word)?;
     let shape = Shape { h, m };
-    (Received { shape, word }).search().ok_or(Refusal::NoWord)
+    let received = Received { shape, word };
+    received.search().ok_or(Refusal::NoWord)
 }
 
 // Symbols that could be a word: as many as the shape has places, each below 2^h.

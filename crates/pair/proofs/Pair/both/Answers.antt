@@ -16,12 +16,13 @@ overflow_add-result c =
     let b = pair.second.now in
     omega (
       arith,
-      phase_count_le pair.h (symbol_at a) c.args.u c.args.k (length a),
-      phase_count_le pair.h (symbol_at b) c.args.u c.args.k (length b),
+      phase_count_le pair.shape.h (symbol_at a) c.args.u c.args.k (length a),
+      phase_count_le pair.shape.h (symbol_at b) c.args.u c.args.k (length b),
     )
 
 pub returns : goal.returns
 unfolding pair_count
 returns c =
-    let lengths = c.args.self.now.words.lengths in
-    ap₂ (λ (x y : ℕ). x + y) c.count.ensures (rw (sym lengths) c.count-2.ensures)
+    let pair = c.args.self.now in
+    ap₂ (λ (x y : ℕ). x + y) (rw (sym pair.first_symbols.long) c.count.ensures)
+    (rw (sym pair.second_symbols.long) c.count-2.ensures)

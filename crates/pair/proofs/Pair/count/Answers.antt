@@ -2,7 +2,7 @@
 -- Assumes nothing.
 use Prim.Native.Nat.{◌+◌, ◌-◌, ◌%◌, ◌^◌}
 use native.Mathlib.Omega.{arith}
-use mathlib.Core.Path.{◌≡◌, refl, ◌∙◌}
+use mathlib.Core.Path.{refl, ◌∙◌}
 use borrow.Author.Tests.{tests}
 use lib.ListN.{length}
 use Rattle.std.proofs.Common.{rules}
@@ -10,8 +10,6 @@ use Rattle.std.proofs.lemmas.Iterator.{YieldsList-from_range, YieldsList-from_ma
 use Rattle.std.proofs.lemmas.Iterator.Adapters.{fits_from_length, at_most_from_yields_List, total_from_yields_List}
 use Rattle.std.proofs.lemmas.List.FromFn.{length-range_with_len}
 use Rattle.range.specs.Below.{one_if}
-use Rattle.rules.specs.Shape.{phases}
-use Rattle.shape.proofs.Powers.{power_is}
 use Rattle.pair.proofs.Counts.{more_by, phase_count_is}
 use Rattle.pair.proofs.Pair.count.Goals as goal
 
@@ -26,13 +24,12 @@ sum-requires-clause-fits c =
 
 pub returns : goal.returns
 returns c =
-    let h = c.args.self.now.h in
+    let h = c.args.self.now.shape.h in
     let w = c.args.word.now in
     let u = c.args.u in
-    let q = c.power-q.result in
-    let q_is : q ≡ phases h = c.power-q.ensures ∙ power_is _ (omega (arith, c.args.self.now.words.h_most)) in
+    let q = c.phases-q.result in
     total_from_yields_List ◌+◌ 0 _ c.sum.ensures.ran
     (YieldsList-from_map _ (λ j. one_if (more_by q w u (c.args.k % q) j))
     (YieldsList-from_range u (length w) (length w - u) (cc) refl)
     c.map.ensures.closure (λ x r f k. search (rules, tests)))
-    ∙ rw q_is (phase_count_is h u c.args.k w)
+    ∙ rw c.phases-q.ensures (phase_count_is h u c.args.k w)

@@ -25,7 +25,8 @@ zeros = replicate (carriers greatest_m) 0
 fits : (c : Start) → length c.args.self.now.word.now ≤ carriers greatest_m
 fits c =
     let symbols = c.args.self.now.symbols in
-    omega (arith, symbols.long, carriers_most c.args.self.now.shape.h c.args.self.now.shape.m (in_shape_range _ _ symbols.shape))
+    let shape = c.args.self.now.shape in
+    omega (arith, symbols.long, carriers_most shape.h shape.m (in_shape_range shape.h shape.m symbols.shape))
 
 pub slice_bounds-buffer-end : goal.slice_bounds-buffer-end
 slice_bounds-buffer-end c = fits (goal.at.slice_bounds-buffer-end c).Start
@@ -37,10 +38,11 @@ slice_bounds-out-end c = sym (length-take-le _ zeros (fits (goal.at.slice_bounds
 free : (c : After-encode) → send_refusal c.args.self.now.shape.h c.args.self.now.shape.m
     (length (take (length c.args.self.now.word.now) zeros)) c.args.message.0 ≡ allowed
 free c =
+    let shape = c.args.self.now.shape in
     let symbols = c.args.self.now.symbols in
     let fits : length c.args.self.now.word.now ≤ carriers greatest_m =
-    omega (arith, symbols.long, carriers_most c.args.self.now.shape.h c.args.self.now.shape.m (in_shape_range _ _ symbols.shape)) in
-    send_allowed c.args.self.now.shape.h c.args.self.now.shape.m _ _
+    omega (arith, symbols.long, carriers_most shape.h shape.m (in_shape_range shape.h shape.m symbols.shape)) in
+    send_allowed shape.h shape.m _ _
     (record {
       shape = symbols.shape;
       long = length-take-le _ zeros fits ∙ symbols.long;

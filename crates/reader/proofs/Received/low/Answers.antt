@@ -58,7 +58,8 @@ pub loop-k-preserved : goal.loop-k-preserved
 loop-k-preserved c =
     ap₂ (λ (x y : ℕ). x + y)
     (ap₂ (λ (x y : ℕ). x * y) c.loop-k.invariant c.phases-q.ensures)
-    (shown_of _ c.args.self.now.shape.m _ (c.loop-k.k + 1) _ _ _ c.phases-q.ensures (place (goal.at.loop-k-preserved c).After-power-at)
+    (shown_of _ c.args.self.now.shape.m _ (c.loop-k.k + 1) _ _ _ c.phases-q.ensures
+    (place (goal.at.loop-k-preserved c).After-power-at)
     c.minus.ensures)
     ∙ shown_up_to_next _ _ _ _
 

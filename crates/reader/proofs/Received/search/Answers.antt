@@ -52,7 +52,8 @@ overflow_mul-n c =
     omega (
       arith,
       label_is (goal.at.overflow_mul-n c).At-loop-n,
-      label_with_small said.shape.h said.shape.m said.word.now said.symbols _ (used (goal.at.overflow_mul-n c).In-loop-n),
+      label_with_small said.shape.h said.shape.m said.word.now said.symbols _
+          (used (goal.at.overflow_mul-n c).In-loop-n),
     )
 
 pub overflow_add-n : goal.overflow_add-n
@@ -61,7 +62,8 @@ overflow_add-n c =
     omega (
       arith,
       label_is (goal.at.overflow_add-n c).At-loop-n,
-      label_with_small said.shape.h said.shape.m said.word.now said.symbols _ (used (goal.at.overflow_add-n c).In-loop-n),
+      label_with_small said.shape.h said.shape.m said.word.now said.symbols _
+          (used (goal.at.overflow_add-n c).In-loop-n),
     )
 
 pub is_word-requires : goal.is_word-requires
@@ -76,7 +78,8 @@ returns-then-is_word c =
 pub loop-n-preserved : goal.loop-n-preserved
 loop-n-preserved c =
     let said = c.args.self.now in
-    let tried = ap (word_of said.shape.h said.shape.m) (message_is (goal.at.loop-n-preserved c).After-message_of-message) in
+    let tried = ap (word_of said.shape.h said.shape.m)
+    (message_is (goal.at.loop-n-preserved c).After-message_of-message) in
     below_more _ _ c.loop-n.invariant
     (λ e. false≢true (sym c.if-is_word.false ∙ c.is_word.ensures.1 (tried ∙ e)))
 
