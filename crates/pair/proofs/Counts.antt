@@ -1,5 +1,6 @@
--- Laws of phase_count, and of what chains of iterators over a range give. In order: a bound; a test of all numbers of a
--- range; a count of those that pass; the count of phase_count.
+-- Laws of phase_count, and of what chains of iterators over a range give. In order: no symbol has
+-- another u places before it; a bound; one symbol more, counted or not; a test of all numbers of a range; a count of
+-- those that pass; the count of phase_count.
 -- Assumes nothing.
 use Prim.Native.Nat.{ℕ, zero, suc, ◌+◌, ◌-◌, ◌%◌, ◌≤◌}
 use native.Mathlib.Nat.{le_trans, sub-le, zero-add}
@@ -9,17 +10,39 @@ use mathlib.Core.Bool.{Bool, ◌&&◌}
 use mathlib.Core.List.{List}
 use lib.Dec.{eqb}
 use lib.ListN.{length}
+use borrow.Author.Tests.{eq-eqb, ne_eqb}
 use Rattle.std.specs.List.{range_with_len, list_all, fold}
 use Rattle.std.proofs.Common.{map}
 use Rattle.range.specs.Below.{sum_below, count_below, all_below, one_if}
-use Rattle.range.proofs.Sums.{count_below_le}
+use Rattle.range.proofs.Sums.{count_below_suc, count_below_le}
 use Rattle.rules.specs.Shape.{phases}
 use Rattle.rules.specs.Pair.{minus, phase_count}
 use Rattle.rules.specs.Word.{symbol_at}
 
-pub phase_count_le : (h : ℕ) (a : ℕ → ℕ) (u k n : ℕ) → phase_count h n a u k ≤ n
-unfolding phase_count
-phase_count_le h a u k n = le_trans (count_below_le (n - u) _) (sub-le n u)
+module _ (h : ℕ) (a : ℕ → ℕ) (u k : ℕ) where
+  pub phase_count_none : 0 ≡ phase_count h u a u k
+  unfolding phase_count count_below sum_below
+  phase_count_none = let e : u - u ≡ zero = omega arith in rw e
+
+  pub phase_count_le : (n : ℕ) → phase_count h n a u k ≤ n
+  unfolding phase_count
+  phase_count_le n = le_trans (count_below_le (n - u) _) (sub-le n u)
+
+  -- of the first j symbols c places count, and the next symbol's difference is d
+  module _ (q j c d : ℕ) (turn : q ≡ phases h) (l : u ≤ j) (so_far : c ≡ phase_count h j a u k)
+      (is : d ≡ minus q (a (j - u)) (a j)) where
+    phase_count_next : phase_count h (j + 1) a u k ≡ c + one_if (eqb d (k % q))
+    unfolding phase_count
+    phase_count_next =
+        let s : j + 1 - u ≡ suc (j - u) = omega arith in
+        let p : j - u + u ≡ j = omega arith in
+        rw (so_far, is, turn, s, count_below_suc, p)
+
+    pub phase_count_hit : d ≡ k % q → c + 1 ≡ phase_count h (j + 1) a u k
+    phase_count_hit e = rw (phase_count_next, eq-eqb d (k % q) e)
+
+    pub phase_count_miss : (d ≡ k % q → ⊥) → c ≡ phase_count h (j + 1) a u k
+    phase_count_miss e = rw (phase_count_next, ne_eqb d (k % q) e) (omega arith)
 
 -- f is tested of the numbers from a on, and g says the same of those from 0
 pub list_all_range : (a n : ℕ) (f g : ℕ → Bool) → ((i : ℕ) → f (a + i) ≡ g i) →
