@@ -1,11 +1,11 @@
--- Laws of tests one behind the other: code asks test after test, and the rules nest them. In order: a test that
--- refuses ends what it stands before, and one that refuses nothing leaves it; the same of a
--- search; a test behind others, as one outcome.
+-- Laws of tests one behind the other: code asks test after test, and the rules nest them. In order: a test that refuses
+-- ends what it stands before, and one that refuses nothing leaves it; the same of a search; a test behind others, as one
+-- outcome.
 -- Assumes nothing.
 use Prim.Native.Nat.{ℕ}
 use mathlib.Core.Path.{◌≡◌, refl, sym, ◌∙◌, ap}
 use mathlib.Core.Bool.{Bool, true, false, cond}
-use mathlib.Core.List.{List}
+use mathlib.Core.List.{List, []}
 use mathlib.Core.Option.{Option, none, some}
 use Rattle.rules.specs.Outcome.{Outcome, refuses, allowed, and_then, refuse, refuse_at}
 use Rattle.rules.proofs.OutcomeLaws.{gives_not_refuses}
