@@ -27,18 +27,18 @@ impl Standing {
         ensures { result ≡ better self value label }
     {
         if value <= self.second {
-            self
-        } else if value <= self.best {
-            Standing {
+            return self;
+        }
+        if value <= self.best {
+            return Standing {
                 second: value,
                 ..self
-            }
-        } else {
-            Standing {
-                best: value,
-                second: self.best,
-                label,
-            }
+            };
+        }
+        Standing {
+            best: value,
+            second: self.best,
+            label,
         }
     }
 
