@@ -3,17 +3,17 @@
 -- accepted; what its search gives; the message that is answered; the answer of soft decoding; the answer of hard
 -- decoding.
 -- Not here: totals, correlations and distances (totals, Answers).  Assumes nothing.
-use Prim.Native.Nat.{ℕ, ◌-◌, ◌*◌, ◌≤◌, ◌<◌, zero-le}
-use native.Mathlib.Nat.{mul-le-mul, le_refl}
+use Prim.Native.Nat.{ℕ, ◌+◌, ◌-◌, ◌*◌, ◌/◌, ◌%◌, ◌≤◌, ◌<◌, zero-le}
+use native.Mathlib.Nat.{mul-le-mul, mul_comm, le_refl, mod-lt, div-lt_iff_lt-mul, div-add-mod'}
 use native.Mathlib.Decide.{dec_lt}
 use native.Mathlib.Omega.{arith}
 use mathlib.Core.Path.{◌≡◌, sym, ◌∙◌}
-use mathlib.Core.Bool.{Bool, true}
+use mathlib.Core.Bool.{true}
 use mathlib.Core.List.{List}
-use lib.Dec.{lit≤}
+use lib.Dec.{lit<, lit≤}
 use lib.IntN.{ℤ, pos, ◌-ℤ◌}
 use lib.ListN.{length, get_or, get_or-eq_default}
-use lib.Pow.{pow_mono}
+use lib.Pow.{pow_pos, pow_mono}
 use lib.Signed.{mag}
 use borrow.Author.Tests.{le-leb}
 use Rattle.range.specs.Signed.{entry}
@@ -25,7 +25,7 @@ use Rattle.rules.specs.Label.{labels, label_of, message_of}
 use Rattle.rules.specs.Word.{symbol_at}
 use Rattle.rules.specs.Best.{Best}
 use Rattle.rules.specs.Decoding.{Answer, BestAnswer, Loud, Near}
-use Rattle.rules.proofs.Range.{in_shape_range, carriers_most}
+use Rattle.rules.proofs.Range.{in_shape_range, carriers_most, phases_half}
 use Rattle.rules.proofs.Silence.{labels_two}
 use Rattle.rules.proofs.Messages.{label_of_message_of, message_of_lt}
 use Rattle.totals.specs.Totals.{total_of}
@@ -38,6 +38,7 @@ use Rattle.standing.specs.Lead.{lead, tied_of}
 use Rattle.standing.proofs.Leading.{lead_best, lead_tied}
 use Rattle.engine.specs.Search.{greatest_decoded, most_gain, accepts, searched}
 use Rattle.engine.proofs.Accepting.{accepts_small, searched_is}
+use Rattle.decoder.specs.Seen.{IsSeen, small_at}
 
 -- what the search answers, with the best total as its value
 abbrev answer_of : ℕ → ℕ → Standing → Answer ℕ
@@ -94,19 +95,42 @@ module _ (h m : ℕ) (ok : in_shape h m ≡ true) (two : h ≤ 2) (st : Standing
   one : 1 ≤ h
   one = (in_shape_range h m ok).h_least
 
-  module _ (ys : List ℤ) (small : (k : ℕ) → mag (entry ys k) < raise_by)
+  -- every soft value is a sixteen-bit number, once the gains of all symbols are known
+  module _ (ys : List ℤ) (long : length ys ≡ half_turn h * carriers m)
+      (read : IsSeen (carriers m) (phases h) (small_at h ys)) where
+    small : (k : ℕ) → mag (entry ys k) < raise_by
+    small k = at (dec_lt k (length ys))
+      where
+        half : ℕ
+        half = half_turn h
+
+        at : Dec (k < length ys) → mag (entry ys k) < raise_by
+        at (yes b) =
+            let some : 0 < half = pow_pos (h - 1) in
+            let place : k / half < carriers m =
+            (div-lt_iff_lt-mul some).1 (omega (arith, b, long, mul_comm half (carriers m))) in
+            let turn : k % half < half = mod-lt k some in
+            let e : half * (k / half) + k % half ≡ k =
+            omega (arith, mul_comm half (k / half), div-add-mod' k half) in
+            rw e at (read (k / half) (k % half) place (omega (arith, turn, phases_half h one)) turn)
+        at (no b) = rw (get_or-eq_default ys (pos 0) {n = k} (omega (arith, b))) (lit< tt)
+
+  module _ (ys : List ℤ) (long : length ys ≡ half_turn h * carriers m)
+      (read : IsSeen (carriers m) (phases h) (small_at h ys))
       (q : st ≡ searched h m (table_of h m (soft_gain h ys))) where
     heard : Leads h m (2 * raise_by) (soft_gain h ys) st
-    heard = search_leads h m (2 * raise_by) (soft_gain h ys) (soft_gain_le h ys small) ok two (lit≤ tt) st q
+    heard = search_leads h m (2 * raise_by) (soft_gain h ys) (soft_gain_le h ys (small ys long read)) ok two (lit≤ tt) st q
 
     pub soft_best_le : st.best ≤ carriers greatest_m * (2 * raise_by)
     soft_best_le =
         omega (arith, heard.1, mul-le-mul (carriers_most h m (in_shape_range h m ok)) (le_refl (2 * raise_by)))
 
-    pub soft_found : (g : ℕ) (v : ℤ) (t : Bool) → g ≡ message_of h m st.label →
-        v ≡ pos st.best -ℤ pos (carriers m * raise_by) → t ≡ tied_of st →
-        Loud h m ys (record { message = g; value = v; tied = t })
-    soft_found g v t e p q = rw (e, p, q) (loud_of_totals h m ys (answer_of h m st) one two small heard.0)
+    pub soft_found : Loud h m ys (record {
+      message = message_of h m st.label;
+      value = pos st.best -ℤ pos (carriers m * raise_by);
+      tied = tied_of st;
+    })
+    soft_found = loud_of_totals h m ys (answer_of h m st) one two (small ys long read) heard.0
 
   module _ (w : List ℕ) (inside : (i : ℕ) → i < carriers m → symbol_at w i < phases h)
       (q : st ≡ searched h m (table_of h m (hard_gain h w))) where
@@ -119,7 +143,9 @@ module _ (h m : ℕ) (ok : in_shape h m ≡ true) (two : h ≤ 2) (st : Standing
     pub hard_best_le : st.best ≤ carriers m * half_turn h
     hard_best_le = matched.1
 
-    pub hard_found : (g d : ℕ) (t : Bool) → g ≡ message_of h m st.label →
-        d ≡ carriers m * half_turn h - st.best → t ≡ tied_of st →
-        Near h m w (record { message = g; value = d; tied = t })
-    hard_found g d t e p q = rw (e, p, q) (near_of_totals h m w (answer_of h m st) one inside matched.0)
+    pub hard_found : Near h m w (record {
+      message = message_of h m st.label;
+      value = carriers m * half_turn h - st.best;
+      tied = tied_of st;
+    })
+    hard_found = near_of_totals h m w (answer_of h m st) one inside matched.0
