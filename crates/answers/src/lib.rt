@@ -5,32 +5,22 @@
 
 use kinds::{MessageNumber, Refusal};
 
-// The word of greatest correlation: its message, its correlation, and whether another word has it too.
-#[derive(Clone, Copy)]
-pub struct Loudest {
+// The message of the best word, its value, and whether another word has the value too.
+#[derive(Clone, Copy, Debug, PartialEq, Eq, Hash)]
+pub struct Found<V> {
     pub message: MessageNumber,
-    pub correlation: i32,
+    pub value: V,
     pub tied: bool,
 }
 
-// The nearest word: its message, its distance, and whether another word has it too.
-#[derive(Clone, Copy)]
-pub struct Closest {
-    pub message: MessageNumber,
-    pub distance: u32,
-    pub tied: bool,
-}
+// The word of greatest correlation, which is its value.
+pub type Loudest = Found<i32>;
+
+// The nearest word, with its distance as value.
+pub type Closest = Found<u32>;
 
 // The answer of soft decoding.
-#[derive(Clone, Copy)]
-pub enum Heard {
-    Found(Loudest),
-    Refused(Refusal),
-}
+pub type Heard = Result<Loudest, Refusal>;
 
 // The answer of hard decoding.
-#[derive(Clone, Copy)]
-pub enum Matched {
-    Found(Closest),
-    Refused(Refusal),
-}
+pub type Matched = Result<Closest, Refusal>;

@@ -10,8 +10,8 @@ ghost use Rattle.standing.specs.Lead.{tied_of};
 ghost use Rattle.engine.specs.Search.{greatest_decoded, searched};
 ghost use Rattle.decoder.specs.Seen.{IsSeen};
 
+use answers::Found;
 use engine::GREATEST_DECODED;
-use kinds::MessageNumber;
 use shape::{PLACES, Shape};
 use standing::Standing;
 
@@ -58,14 +58,6 @@ pub(super) trait Received {
     ghost finds: { (r : Self) (led : Standing) → IsSeen (carriers (shape r).m) (phases (shape r).h) (seen r)
         → led ≡ searched (shape r).h (shape r).m (table_of (shape r).h (shape r).m (gain r))
         → right r (message_of (shape r).h (shape r).m led.label) (told r led) (tied_of led) };
-}
-
-// A message that is found, its value, and whether another has the value too.
-#[derive(Clone, Copy)]
-pub(super) struct Found<V> {
-    pub(super) message: MessageNumber,
-    pub(super) value: V,
-    pub(super) tied: bool,
 }
 
 // The answer to what is received, by way of an area for the gains.

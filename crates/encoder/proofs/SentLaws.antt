@@ -6,21 +6,21 @@ use Prim.Native.Nat.{ℕ}
 use mathlib.Core.Path.{◌≡◌, sym, ◌∙◌, ap, subst}
 use mathlib.Core.List.{List}
 use lib.ListN.{length}
+use Rattle.std.specs.Prelude.{Ok, Err, IsOk}
 use Rattle.rules.specs.Outcome.{Outcome, refuses, allowed, leaves}
 use Rattle.rules.specs.Refusal.{send_refusal}
 use Rattle.kinds.specs.declared.Refusal.{Refusal}
 use Rattle.kinds.specs.Refusals.{refusal_told}
-use Rattle.encoder.specs.declared.Written.{Written}
-use Rattle.encoder.specs.declared.Written.TheVariants.{Done, Refused}
-use Rattle.encoder.specs.Sent.{Sent}
+use Rattle.kinds.proofs.RefusalLaws.{given_ok}
+use Rattle.encoder.specs.Sent.{Written, Sent}
 
 module _ (h m g : ℕ) (word before : List ℕ) where
   pub sent_refused : (why : Refusal) → refusal_told why ≡ send_refusal h m (length before) g →
-      Sent h m g word before (Refused why) before
+      Sent h m g word before (Err why) before
   sent_refused why e = record { told = e; slice = ap (λ (o : Outcome (Unit {0})). leaves o before word) e }
 
   pub sent_done : (after : List ℕ) → send_refusal h m (length before) g ≡ allowed → after ≡ word →
-      Sent h m g word before Done after
+      Sent h m g word before (Ok tt) after
   sent_done after e q = record {
     told = sym e;
     slice = q ∙ ap (λ (o : Outcome (Unit {0})). leaves o before word) (sym e);
@@ -36,6 +36,11 @@ sent_cong {h} {m} {g} {before = before} {r = r} {after = after} e s =
 pub sent_word : {h m g : ℕ} {word before : List ℕ} {r : Written} {after : List ℕ} → Sent h m g word before r after →
     send_refusal h m (length before) g ≡ allowed → after ≡ word
 sent_word {word = word} {before = before} s e = s.slice ∙ ap (λ (o : Outcome (Unit {0})). leaves o before word) e
+
+-- and the answer is that it is written
+pub sent_ok : {h m g : ℕ} {word before : List ℕ} {r : Written} {after : List ℕ} → Sent h m g word before r after →
+    send_refusal h m (length before) g ≡ allowed → IsOk r
+sent_ok {r = r} s e = given_ok (λ u. u) r (s.told ∙ e)
 
 -- and where something is, whatever it held
 pub sent_kept : {h m g : ℕ} {word before : List ℕ} {r : Written} {after : List ℕ} (k : ℕ) (v : List ℕ) →

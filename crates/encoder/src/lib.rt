@@ -13,15 +13,8 @@ ghost use Rattle.encoder.specs.Arrays.{generator_rows, cell, linear_of, links_of
 ghost use Rattle.encoder.specs.Arrays.{Small, Walk, Bounded};
 ghost use Rattle.encoder.specs.Sent.{Sent};
 
-use kinds::{Judged, MessageNumber, PathNumber, Refusal};
+use kinds::{MessageNumber, PathNumber, Refusal};
 use shape::{PLACES, ROWS, STEPS};
-
-// The answer of encode and partner.
-#[derive(Clone, Copy)]
-pub enum Written {
-    Done,
-    Refused(Refusal),
-}
 
 // A label taken apart: its path number, and its coefficients, c and then c_1 to c_m.
 #[derive(Clone, Copy)]
@@ -32,32 +25,30 @@ struct Parts {
 
 // Writes the N symbols of the message's word to out. Refuses 1 a shape out of range, 2 an out that is not N long, 4 a
 // message number that needs more than its bits; out then stays as it was.
-pub fn encode(h: u32, m: u32, message: MessageNumber, out: &mut [u8]) -> Written
+pub fn encode(h: u32, m: u32, message: MessageNumber, out: &mut [u8]) -> Result<(), Refusal>
     ensures { Sent h m message.0 (word_of h m message.0) out.old result out.new }
 {
     send(h, m, message, 0, out)
 }
 
 // Writes the N symbols of the partner of the message's word to out. Refuses as encode does.
-pub fn partner(h: u32, m: u32, message: MessageNumber, out: &mut [u8]) -> Written
+pub fn partner(h: u32, m: u32, message: MessageNumber, out: &mut [u8]) -> Result<(), Refusal>
     ensures { Sent h m message.0 (partner_of h m message.0) out.old result out.new }
 {
     send(h, m, message, 1, out)
 }
 
 // The word for lift 0 and the partner for lift 1.
-fn send(h: u32, m: u32, message: MessageNumber, lift: u32, out: &mut [u8]) -> Written
+fn send(h: u32, m: u32, message: MessageNumber, lift: u32, out: &mut [u8]) -> Result<(), Refusal>
     requires { lift ≤ 1 }
     ensures { Sent h m message.0
         (list_below (carriers m) (lifted_at h m (label_of h m message.0) (lift * half_turn h)))
         out.old result out.new }
 {
-    if let Judged::Refused(why) = refusals::send(h, m, out.len(), message) {
-        return Written::Refused(why);
-    }
+    refusals::send(h, m, out.len(), message)?;
     let label = shape::label_of(h, m, message);
     fill(h, m, label, lift, out);
-    Written::Done
+    Ok(())
 }
 
 // Writes the lifted word of a label, place by place.

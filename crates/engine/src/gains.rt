@@ -83,7 +83,7 @@ fn own_word(shape: Shape, label: u64, word: &mut [u8])
     ensures { word.new ≡ list_below (carriers shape.m) (word_at shape.h shape.m label) }
 {
     let message: MessageNumber = shape::message_of(shape.h, shape.m, label);
-    encoder::encode(shape.h, shape.m, message, word);
+    encoder::encode(shape.h, shape.m, message, word).unwrap();
 }
 
 // The standing after d stages more, the last stage, and all its labels, counted from first on. The table is at the

@@ -4,11 +4,8 @@
 // receiver hears". The word is the last starred one of 01's "Known words" for h = 2 and m = 4.
 #![tactic(auto)]
 
-use answers::{Closest, Heard, Loudest, Matched};
-use encoder::Written;
+use answers::{Closest, Loudest};
 use kinds::{MessageNumber, Refusal};
-use pair::Paired;
-use reader::Reading;
 use show::{number, say, symbols};
 use std::io;
 use std::io::Write;
@@ -70,10 +67,10 @@ fn tell_partner<W: Write>(out: &mut W, word: &mut [u8]) -> io::Result<()> {
 }
 
 // What encode and partner answer: the symbols, or the refusal.
-fn tell_written<W: Write>(out: &mut W, answer: Written, word: &[u8]) -> io::Result<()> {
+fn tell_written<W: Write>(out: &mut W, answer: Result<(), Refusal>, word: &[u8]) -> io::Result<()> {
     match answer {
-        Written::Done => symbols(out, word)?,
-        Written::Refused(refusal) => tell_refusal(out, refusal)?,
+        Ok(()) => symbols(out, word)?,
+        Err(refusal) => tell_refusal(out, refusal)?,
     }
     say(out, b"\n")
 }
@@ -82,9 +79,9 @@ fn tell_written<W: Write>(out: &mut W, answer: Written, word: &[u8]) -> io::Resu
 fn tell_pair<W: Write>(out: &mut W, first: &[u8], second: &[u8]) -> io::Result<()> {
     say(out, b"are the two a Golay pair? ")?;
     match pair::check(H, M, first, second) {
-        Paired::Yes => say(out, b"yes")?,
-        Paired::No => say(out, b"no")?,
-        Paired::Refused(refusal) => tell_refusal(out, refusal)?,
+        Ok(true) => say(out, b"yes")?,
+        Ok(false) => say(out, b"no")?,
+        Err(refusal) => tell_refusal(out, refusal)?,
     }
     say(out, b"\n")
 }
@@ -93,11 +90,11 @@ fn tell_pair<W: Write>(out: &mut W, first: &[u8], second: &[u8]) -> io::Result<(
 fn tell_reading<W: Write>(out: &mut W, word: &[u8]) -> io::Result<()> {
     say(out, b"read back: ")?;
     match reader::read(H, M, word) {
-        Reading::Found(message) => {
+        Ok(message) => {
             say(out, b"message ")?;
             number(out, message.0)?;
         }
-        Reading::Refused(refusal) => tell_refusal(out, refusal)?,
+        Err(refusal) => tell_refusal(out, refusal)?,
     }
     say(out, b"\n")
 }
@@ -125,8 +122,8 @@ fn tell_damaged<W: Write>(out: &mut W, word: &[u8]) -> io::Result<()> {
 fn tell_nearest<W: Write>(out: &mut W, word: &[u8]) -> io::Result<()> {
     say(out, b"hard decoding: ")?;
     match decoder::hard(H, M, word) {
-        Matched::Found(found) => tell_closest(out, found)?,
-        Matched::Refused(refusal) => tell_refusal(out, refusal)?,
+        Ok(found) => tell_closest(out, found)?,
+        Err(refusal) => tell_refusal(out, refusal)?,
     }
     say(out, b"\n")
 }
@@ -136,7 +133,7 @@ fn tell_closest<W: Write>(out: &mut W, found: Closest) -> io::Result<()> {
     say(out, b"message ")?;
     number(out, message.0)?;
     say(out, b" at distance ")?;
-    number(out, found.distance as u64)?;
+    number(out, found.value as u64)?;
     tell_tie(out, found.tied)
 }
 
@@ -153,8 +150,8 @@ fn tell_heard<W: Write>(out: &mut W, y: &[i16]) -> io::Result<()> {
 fn tell_loudest<W: Write>(out: &mut W, y: &[i16]) -> io::Result<()> {
     say(out, b"soft decoding: ")?;
     match decoder::soft(H, M, y) {
-        Heard::Found(found) => tell_correlation(out, found)?,
-        Heard::Refused(refusal) => tell_refusal(out, refusal)?,
+        Ok(found) => tell_correlation(out, found)?,
+        Err(refusal) => tell_refusal(out, refusal)?,
     }
     say(out, b"\n")
 }
@@ -164,7 +161,7 @@ fn tell_correlation<W: Write>(out: &mut W, found: Loudest) -> io::Result<()> {
     say(out, b"message ")?;
     number(out, message.0)?;
     say(out, b" with correlation ")?;
-    show::signed(out, found.correlation)?;
+    show::signed(out, found.value)?;
     tell_tie(out, found.tied)
 }
 

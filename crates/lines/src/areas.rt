@@ -5,7 +5,7 @@
 // The lists given are both areas before, and those after `areas` both areas after.
 use crate::entries::take_list;
 use crate::parse::{MOST, ends, take_name, take_small};
-use kinds::Judged;
+use kinds::Refusal;
 use show::{area, number, refusal, say, signed};
 use std::io;
 use std::io::Write;
@@ -73,13 +73,13 @@ fn tell_call<W: Write>(
 }
 
 // The part, or why there is none.
-fn tell_part<W: Write>(out: &mut W, judged: Judged, part: &[i32]) -> io::Result<()> {
+fn tell_part<W: Write>(out: &mut W, judged: Result<(), Refusal>, part: &[i32]) -> io::Result<()> {
     match judged {
-        Judged::Allowed => {
+        Ok(()) => {
             say(out, b"part ")?;
             area(out, part)
         }
-        Judged::Refused(kind) => refusal(out, kind),
+        Err(kind) => refusal(out, kind),
     }
 }
 

@@ -5,37 +5,34 @@
 //   hard                message G distance D tied | message G distance D not tied | refused K | refused 3 at place P
 //   soft                message G correlation C tied | message G correlation C not tied | refused K
 use answers::{Heard, Matched};
-use encoder::Written;
-use kinds::MessageNumber;
-use pair::Paired;
-use reader::Reading;
+use kinds::{MessageNumber, Refusal};
 use show::{number, refusal, say, signed, symbols};
 use std::io;
 use std::io::Write;
 
 // With what the slice holds after the call.
-pub(super) fn tell_written<W: Write>(out: &mut W, answer: Written, word: &[u8]) -> io::Result<()> {
+pub(super) fn tell_written<W: Write>(out: &mut W, answer: Result<(), Refusal>, word: &[u8]) -> io::Result<()> {
     match answer {
-        Written::Done => say(out, b"done")?,
-        Written::Refused(kind) => refusal(out, kind)?,
+        Ok(()) => say(out, b"done")?,
+        Err(kind) => refusal(out, kind)?,
     }
     say(out, b" [")?;
     symbols(out, word)?;
     say(out, b"]")
 }
 
-pub(super) fn tell_paired<W: Write>(out: &mut W, answer: Paired) -> io::Result<()> {
+pub(super) fn tell_paired<W: Write>(out: &mut W, answer: Result<bool, Refusal>) -> io::Result<()> {
     match answer {
-        Paired::Yes => say(out, b"yes"),
-        Paired::No => say(out, b"no"),
-        Paired::Refused(kind) => refusal(out, kind),
+        Ok(true) => say(out, b"yes"),
+        Ok(false) => say(out, b"no"),
+        Err(kind) => refusal(out, kind),
     }
 }
 
-pub(super) fn tell_reading<W: Write>(out: &mut W, answer: Reading) -> io::Result<()> {
+pub(super) fn tell_reading<W: Write>(out: &mut W, answer: Result<MessageNumber, Refusal>) -> io::Result<()> {
     match answer {
-        Reading::Found(message) => tell_message(out, message),
-        Reading::Refused(kind) => refusal(out, kind),
+        Ok(message) => tell_message(out, message),
+        Err(kind) => refusal(out, kind),
     }
 }
 
@@ -46,27 +43,27 @@ fn tell_message<W: Write>(out: &mut W, message: MessageNumber) -> io::Result<()>
 
 pub(super) fn tell_matched<W: Write>(out: &mut W, answer: Matched) -> io::Result<()> {
     match answer {
-        Matched::Found(found) => {
+        Ok(found) => {
             let message = found.message;
             tell_message(out, message)?;
             say(out, b" distance ")?;
-            number(out, found.distance as u64)?;
+            number(out, found.value as u64)?;
             tell_tie(out, found.tied)
         }
-        Matched::Refused(kind) => refusal(out, kind),
+        Err(kind) => refusal(out, kind),
     }
 }
 
 pub(super) fn tell_heard<W: Write>(out: &mut W, answer: Heard) -> io::Result<()> {
     match answer {
-        Heard::Found(found) => {
+        Ok(found) => {
             let message = found.message;
             tell_message(out, message)?;
             say(out, b" correlation ")?;
-            signed(out, found.correlation)?;
+            signed(out, found.value)?;
             tell_tie(out, found.tied)
         }
-        Heard::Refused(kind) => refusal(out, kind),
+        Err(kind) => refusal(out, kind),
     }
 }
 

@@ -11,30 +11,16 @@ ghost use Rattle.rules.specs.Refusal.{pair_outcome};
 ghost use Rattle.pair.specs.Paired.{paired_told};
 ghost use Rattle.pair.specs.Words.{Words};
 
-use kinds::{Judged, Refusal};
-
-// What the pair check answers.
-#[derive(Clone, Copy)]
-pub enum Paired {
-    Yes,
-    No,
-    Refused(Refusal),
-}
+use kinds::Refusal;
 
 // Whether two words are a Golay pair: at every shift from 1 to N - 1 and every phase the counts of 01 agree. Refuses 1
 // a shape out of range, 2 a word that is not N long (either one), 3 a symbol that is 2^h or more: the first such place
 // of the first word, else of the second, and which word. Both words are only read.
-pub fn check(h: u32, m: u32, first: &[u8], second: &[u8]) -> Paired
+pub fn check(h: u32, m: u32, first: &[u8], second: &[u8]) -> Result<bool, Refusal>
     ensures { paired_told result ≡ pair_outcome h m first.now second.now }
 {
-    if let Judged::Refused(why) = refusals::pair(h, m, first, second) {
-        return Paired::Refused(why);
-    }
-    if all_shifts(h, first, second) {
-        Paired::Yes
-    } else {
-        Paired::No
-    }
+    refusals::pair(h, m, first, second)?;
+    Ok(all_shifts(h, first, second))
 }
 
 // Whether the counts agree at every shift from 1 to the length less 1.

@@ -11,29 +11,20 @@ ghost use Rattle.rules.specs.Refusal.{read_outcome, or_no_word};
 ghost use Rattle.reader.specs.Reading.{reading_told};
 ghost use Rattle.reader.specs.Shown.{low_of};
 
-use kinds::{Judged, MessageNumber, Refusal};
+use kinds::{MessageNumber, Refusal};
 use shape::PLACES;
-
-// The answer of word reading.
-#[derive(Clone, Copy)]
-pub enum Reading {
-    Found(MessageNumber),
-    Refused(Refusal),
-}
 
 // The message whose word the symbols are exactly. Refuses 1 a shape out of range, 2 a word that is not N long, 3 a
 // symbol that is 2^h or more, with the first such place, 5 symbols that are no message's word. The word is only read.
-pub fn read(h: u32, m: u32, word: &[u8]) -> Reading
+pub fn read(h: u32, m: u32, word: &[u8]) -> Result<MessageNumber, Refusal>
     ensures { reading_told result ≡ read_outcome h m word.now }
 {
-    if let Judged::Refused(why) = refusals::word(h, m, word) {
-        return Reading::Refused(why);
-    }
+    refusals::word(h, m, word)?;
     search(h, m, word)
 }
 
 // Tries the label that the symbols show with each path in use.
-fn search(h: u32, m: u32, word: &[u8]) -> Reading
+fn search(h: u32, m: u32, word: &[u8]) -> Result<MessageNumber, Refusal>
     requires { Symbols h m word.now }
     ensures { reading_told result ≡ or_no_word (message_with h m word.now) }
 {
@@ -44,12 +35,12 @@ fn search(h: u32, m: u32, word: &[u8]) -> Reading
     while n < uses {
         let message = shape::message_of(h, m, label);
         if is_word(h, m, message, word) {
-            return Reading::Found(message);
+            return Ok(message);
         }
         label += step;
         n += 1;
     }
-    Reading::Refused(Refusal::NoWord)
+    Err(Refusal::NoWord)
 }
 
 // Whether the symbols are the message's word.
@@ -72,7 +63,7 @@ fn compare(h: u32, m: u32, message: MessageNumber, buffer: &mut [u8], word: &[u8
     ensures { (result ≡ true → word_of h m message.0 ≡ word.now)
         × (word_of h m message.0 ≡ word.now → result ≡ true) }
 {
-    encoder::encode(h, m, message, buffer);
+    encoder::encode(h, m, message, buffer).unwrap();
     check::same(buffer, word)
 }
 

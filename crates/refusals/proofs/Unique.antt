@@ -2,8 +2,7 @@
 -- Assumes nothing.
 use mathlib.Core.Path.{◌≡◌, sym, ◌∙◌}
 use Rattle.rules.specs.Outcome.{Outcome}
-use Rattle.kinds.specs.declared.Judged.{Judged}
-use Rattle.kinds.specs.Refusals.{judged_told}
+use Rattle.kinds.specs.Refusals.{Judged, judged_told}
 use Rattle.kinds.proofs.RefusalLaws.{judged_told_inj}
 
 pub judged_unique : (o : Outcome (Unit {0})) (r s : Judged) → judged_told r ≡ o → judged_told s ≡ o → r ≡ s

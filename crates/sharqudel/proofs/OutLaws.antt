@@ -14,7 +14,7 @@ use Rattle.rules.specs.Refusal.{soft_refusal, hard_refusal, transform_refusal}
 use Rattle.rules.specs.Decoding.{SoftAnswer, HardAnswer, SoftOutcome, HardOutcome}
 use Rattle.kinds.specs.declared.Refusal.{Refusal}
 use Rattle.kinds.specs.Refusals.{refusal_number, refusal_carries, refusal_told}
-use Rattle.encoder.specs.declared.Written.{Written}
+use Rattle.encoder.specs.Sent.{Written}
 use Rattle.encoder.specs.Sent.{written_told, Sent}
 use Rattle.transform.specs.Transformed.{Ran}
 use Rattle.transform.proofs.AreasAfter.{ran_refused}

@@ -15,11 +15,7 @@ ghost use Rattle.encoder.specs.Sent.{written_told};
 ghost use Rattle.sharqudel.specs.Crossing.{kind_of, Tells};
 ghost use Rattle.sharqudel.specs.Out.{SentOut, CheckedOut, ReadOut, SoftOut, HardOut, JudgedOut, TransformedOut};
 
-use answers::{Heard, Matched};
-use encoder::Written;
-use kinds::{Judged, MessageNumber, Refusal};
-use pair::Paired;
-use reader::Reading;
+use kinds::{MessageNumber, Refusal};
 
 // Writes the N symbols of the message's word to out. Refuses 1, 2 and 4; out then stays as it was.
 #[unsafe(no_mangle)]
@@ -54,15 +50,11 @@ pub extern "C" fn sharqudel_check(
         which.old which.new }
 {
     match pair::check(h, m, first, second) {
-        Paired::Yes => {
-            *pair = true;
+        Ok(yes) => {
+            *pair = yes;
             0
         }
-        Paired::No => {
-            *pair = false;
-            0
-        }
-        Paired::Refused(why) => {
+        Err(why) => {
             name(why, which);
             tell(why, place)
         }
@@ -83,11 +75,11 @@ pub extern "C" fn sharqudel_read(
         message.old message.new place.old place.new }
 {
     match reader::read(h, m, word) {
-        Reading::Found(found) => {
+        Ok(found) => {
             *message = found.0;
             0
         }
-        Reading::Refused(why) => tell(why, place),
+        Err(why) => tell(why, place),
     }
 }
 
@@ -106,15 +98,13 @@ pub extern "C" fn sharqudel_soft(
         correlation.old correlation.new tied.old tied.new }
 {
     match decoder::soft(h, m, values) {
-        Heard::Found(found) => {
-            let best = found.message;
-            *message = best.0;
-            let value = found.correlation;
-            *correlation = value;
+        Ok(found) => {
+            *message = found.message.0;
+            *correlation = found.value;
             *tied = found.tied;
             0
         }
-        Heard::Refused(why) => kinds::number(why),
+        Err(why) => why.number(),
     }
 }
 
@@ -136,14 +126,13 @@ pub extern "C" fn sharqudel_hard(
         place.old place.new }
 {
     match decoder::hard(h, m, word) {
-        Matched::Found(found) => {
-            let best = found.message;
-            *message = best.0;
-            *distance = found.distance;
+        Ok(found) => {
+            *message = found.message.0;
+            *distance = found.value;
             *tied = found.tied;
             0
         }
-        Matched::Refused(why) => tell(why, place),
+        Err(why) => tell(why, place),
     }
 }
 
@@ -155,8 +144,8 @@ pub extern "C" fn sharqudel_refusal(m: u32, first: &[i32], second: &[i32], place
         place.old place.new }
 {
     match refusals::transform(m, first, second) {
-        Judged::Allowed => 0,
-        Judged::Refused(why) => tell(why, place),
+        Ok(()) => 0,
+        Err(why) => tell(why, place),
     }
 }
 
@@ -177,22 +166,22 @@ pub extern "C" fn sharqudel_transform(
         first.new second.new }
 {
     match refusals::transform(m, first, second) {
-        Judged::Allowed => {
+        Ok(()) => {
             transform::run(m, first, second);
             *area = 1 + m % 2;
             0
         }
-        Judged::Refused(why) => tell(why, place),
+        Err(why) => tell(why, place),
     }
 }
 
 // The number of what encode and partner answer.
-fn written(answer: Written) -> u32
+fn written(answer: Result<(), Refusal>) -> u32
     ensures { result ≡ kind_of (written_told answer) }
 {
     match answer {
-        Written::Done => 0,
-        Written::Refused(why) => kinds::number(why),
+        Ok(()) => 0,
+        Err(why) => why.number(),
     }
 }
 
@@ -201,16 +190,15 @@ fn tell(why: Refusal, place: &mut usize) -> u32
     ensures { Tells why result place.old place.new }
 {
     locate(why, place);
-    kinds::number(why)
+    why.number()
 }
 
 // The place that a refusal carries, where it carries one, into the cell.
 fn locate(why: Refusal, place: &mut usize)
     ensures { place.new ≡ get_or (refusal_carries why) 0 place.old }
 {
-    let carried = kinds::carries(why);
-    if 0 < carried.count {
-        *place = carried.first;
+    if let Some(found) = why.place() {
+        *place = found.0;
     }
 }
 
@@ -218,8 +206,7 @@ fn locate(why: Refusal, place: &mut usize)
 fn name(why: Refusal, which: &mut u32)
     ensures { which.new ≡ get_or (refusal_carries why) 1 which.old }
 {
-    let carried = kinds::carries(why);
-    if 1 < carried.count {
-        *which = carried.second;
+    if let Some(word) = why.which() {
+        *which = word.0;
     }
 }

@@ -90,29 +90,19 @@ fn symbol<W: Write>(out: &mut W, x: u8) -> io::Result<()> {
 // A refusal by its number in the table of 01, with its place and its word where it carries them.
 pub fn refusal<W: Write>(out: &mut W, why: Refusal) -> io::Result<()> {
     say(out, b"refused ")?;
-    number(out, kinds::number(why) as u64)?;
-    let carried = kinds::carries(why);
-    if 0 < carried.count {
+    number(out, why.number() as u64)?;
+    if let Some(place) = why.place() {
         say(out, b" at place ")?;
-        number(out, carried.first as u64)?;
+        number(out, place.0 as u64)?;
     }
-    if 1 < carried.count {
+    if let Some(word) = why.which() {
         say(out, b" of word ")?;
-        number(out, carried.second as u64)?;
+        number(out, word.0 as u64)?;
     }
     Ok(())
 }
 
 // A refusal in words.
 pub fn reason<W: Write>(out: &mut W, why: Refusal) -> io::Result<()> {
-    match kinds::number(why) {
-        1 => say(out, b"h or m is out of range"),
-        2 => say(out, b"wrong slice length for this shape"),
-        3 => say(out, b"a symbol is too large"),
-        4 => say(out, b"message number too large for this shape"),
-        5 => say(out, b"no message has this word"),
-        6 => say(out, b"decoding of eight phases (h = 3) is not supported"),
-        7 => say(out, b"a value is out of range"),
-        _ => say(out, b"see the table of refusals"),
-    }
+    write!(out, "{why}")
 }

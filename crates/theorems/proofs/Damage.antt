@@ -21,7 +21,7 @@ use Rattle.rules.proofs.DecodingLaws.{hard_outcome_unique}
 use Rattle.signals.proofs.Damage.{near_of_damage}
 use Rattle.rules.proofs.Messages.{label_of_lt}
 use Rattle.distances.proofs.Apart.{hamming_apart, lee_apart}
-use Rattle.answers.specs.declared.Matched.{Matched}
+use Rattle.answers.specs.Decoded.{Matched}
 use Rattle.answers.specs.Decoded.{matched_told, Matches}
 use Rattle.theorems.specs.Names.{word}
 

@@ -6,7 +6,8 @@
 use Prim.Native.Nat.{ℕ, ◌*◌, ◌≤◌, ◌<◌}
 use native.Mathlib.Omega.{arith}
 use mathlib.Core.Path.{◌≡◌, sym, ◌∙◌, ap, ap₂}
-use mathlib.Core.Bool.{true, true≢false}
+use mathlib.Core.Bool.{true, false, true≢false}
+use Rattle.std.specs.Prelude.{Ok}
 use mathlib.Core.List.{List}
 use mathlib.Core.Logic.{◌↔◌}
 use lib.Dec.{eqb}
@@ -29,8 +30,7 @@ use Rattle.words.proofs.Forms.{word_of_at, partner_of_at}
 use Rattle.golay.proofs.Autocorrelations.{golay_pair_iff_cancel}
 use Rattle.golay.proofs.LabelPairs.{golay_pair_word_partner}
 use Rattle.golay.proofs.Envelopes.{envelope_power_together}
-use Rattle.pair.specs.declared.Paired.{Paired}
-use Rattle.pair.specs.declared.Paired.TheVariants.{Yes, No}
+use Rattle.pair.specs.Paired.{Paired}
 use Rattle.pair.specs.Paired.{paired_told}
 use Rattle.pair.proofs.PairTest.{golay_pair_iff, golay_pair_cong, golay_pair_self}
 use Rattle.pair.proofs.Given.{pair_given}
@@ -62,9 +62,9 @@ module _ (h m g : ℕ) (shape : in_shape h m ≡ true) (taken : g < messages h m
       ∙ pair_given h m (word_of h m g) (partner_of h m g) (word_of_symbols h m g shape) (partner_of_symbols h m g shape)
 
 pub written_yes : (h m g : ℕ) (d e w v : List ℕ) (t : Paired) → Encodes h m g d w → Partners h m g e v →
-    paired_told t ≡ pair_outcome h m w v → t ≡ Yes
+    paired_told t ≡ pair_outcome h m w v → t ≡ Ok true
 written_yes h m g d e w v t p q told =
-    paired_told_inj t Yes (told ∙ ap₂ (pair_outcome h m) (done_word p) (done_word q)
+    paired_told_inj t (Ok true) (told ∙ ap₂ (pair_outcome h m) (done_word p) (done_word q)
     ∙ sym (lists_yes h m g (done_shape p) (done_message p)))
 
 pub self_not_pair : (h m : ℕ) (a : ℕ → ℕ) → 1 ≤ h → 1 ≤ m → GolayPair h m a a → ⊥
@@ -75,29 +75,29 @@ module _ (h m : ℕ) (w v : List ℕ) (r : Paired) (a : Symbols h m w) (b : Symb
   given : paired_told r ≡ gives (golay_pair h m (symbol_at w) (symbol_at v))
   given = told ∙ sym (pair_given h m w v a b)
 
-  pub yes_iff_pair : (r ≡ Yes) ↔ GolayPair h m (symbol_at w) (symbol_at v)
+  pub yes_iff_pair : (r ≡ Ok true) ↔ GolayPair h m (symbol_at w) (symbol_at v)
   yes_iff_pair =
       let test = golay_pair_iff h m (symbol_at w) (symbol_at v) in (
         λ e. test.0 (gives_inj (sym given ∙ ap paired_told e)),
-        λ p. paired_told_inj r Yes (given ∙ ap gives (test.1 p)),
+        λ p. paired_told_inj r (Ok true) (given ∙ ap gives (test.1 p)),
       )
 
-  pub yes_iff_cancel : (r ≡ Yes) ↔ Cancel h m (symbol_at w) (symbol_at v)
+  pub yes_iff_cancel : (r ≡ Ok true) ↔ Cancel h m (symbol_at w) (symbol_at v)
   yes_iff_cancel = (
     λ e. (tested_iff h m w v a.shape).0 (gives_inj (sym given ∙ ap paired_told e)),
-    λ c. paired_told_inj r Yes (given ∙ ap gives ((tested_iff h m w v a.shape).1 c)),
+    λ c. paired_told_inj r (Ok true) (given ∙ ap gives ((tested_iff h m w v a.shape).1 c)),
   )
 
-  pub no_iff_not_cancel : (r ≡ No) ↔ (Cancel h m (symbol_at w) (symbol_at v) → ⊥)
+  pub no_iff_not_cancel : (r ≡ Ok false) ↔ (Cancel h m (symbol_at w) (symbol_at v) → ⊥)
   no_iff_not_cancel = (
     λ e. (tested_false h m w v a.shape).0 (gives_inj (sym given ∙ ap paired_told e)),
-    λ n. paired_told_inj r No (given ∙ ap gives ((tested_false h m w v a.shape).1 n)),
+    λ n. paired_told_inj r (Ok false) (given ∙ ap gives ((tested_false h m w v a.shape).1 n)),
   )
 
-pub self_no : (h m : ℕ) (w : List ℕ) (r : Paired) → Symbols h m w → paired_told r ≡ pair_outcome h m w w → r ≡ No
+pub self_no : (h m : ℕ) (w : List ℕ) (r : Paired) → Symbols h m w → paired_told r ≡ pair_outcome h m w w → r ≡ Ok false
 self_no h m w r a told =
     let t = in_shape_range h m a.shape in
-    paired_told_inj r No (given h m w w r a a told
+    paired_told_inj r (Ok false) (given h m w w r a a told
     ∙ ap gives (golay_pair_self h m (symbol_at w) t.h_least (omega (arith, t.m_least))))
 
 pub envelope_together : (h m g r s t : ℕ) → in_shape h m ≡ true → g < messages h m → h ≤ r → t < half_turn r →

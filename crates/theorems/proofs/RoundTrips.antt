@@ -33,10 +33,10 @@ use Rattle.rules.proofs.RefusalLaws.{soft_allowed}
 use Rattle.rules.proofs.Messages.{label_of_lt}
 use Rattle.words.proofs.Forms.{word_of_at, word_of_lt}
 use Rattle.distances.proofs.Apart.{distance_apart}
-use Rattle.reader.specs.declared.Reading.{Reading}
+use Rattle.reader.specs.Reading.{Reading}
 use Rattle.reader.specs.Reading.{reading_told}
-use Rattle.answers.specs.declared.Heard.{Heard}
-use Rattle.answers.specs.declared.Matched.{Matched}
+use Rattle.answers.specs.Decoded.{Heard}
+use Rattle.answers.specs.Decoded.{Matched}
 use Rattle.answers.specs.Decoded.{heard_told, matched_told, Hears, Matches}
 use Rattle.theorems.specs.Names.{word, Encodes}
 use Rattle.theorems.specs.Rows.{read_gives}

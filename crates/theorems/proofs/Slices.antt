@@ -5,6 +5,7 @@
 use Prim.Native.Nat.{ℕ, ◌<◌}
 use mathlib.Core.Path.{◌≡◌, sym, ◌∙◌}
 use mathlib.Core.Bool.{true}
+use Rattle.std.specs.Prelude.{Ok}
 use mathlib.Core.List.{List}
 use lib.ListN.{length}
 use Rattle.range.specs.Below.{list_below}
@@ -16,8 +17,7 @@ use Rattle.rules.specs.Outcome.{refuses}
 use Rattle.rules.proofs.RefusalLaws.{send_allowed, send_taken}
 use Rattle.rules.proofs.SymbolLaws.{word_at_lt}
 use Rattle.words.proofs.Forms.{length_word_of, length_partner_of, word_of_lt, partner_of_lt}
-use Rattle.encoder.specs.declared.Written.{Written}
-use Rattle.encoder.specs.declared.Written.TheVariants.{Done}
+use Rattle.encoder.specs.Sent.{Written}
 use Rattle.encoder.specs.Sent.{written_told, Sent}
 use Rattle.encoder.proofs.SentLaws.{sent_word, sent_kept}
 use Rattle.encoder.proofs.Unique.{written_told_inj}
@@ -36,7 +36,7 @@ labelled_symbols h m l shape = record {
   below = λ i b. rw (list_below_at (carriers m) (word_at h m l) i 0 b) (word_at_lt h m l i);
 }
 
-module _ {h m g : ℕ} {word d w : List ℕ} (s : Sent h m g word d Done w) where
+module _ {h m g : ℕ} {word d w : List ℕ} (s : Sent h m g word d (Ok tt) w) where
   pub done_shape : in_shape h m ≡ true
   done_shape = (send_taken h m (length d) g (sym s.told)).shape
 
@@ -47,10 +47,10 @@ module _ {h m g : ℕ} {word d w : List ℕ} (s : Sent h m g word d Done w) wher
   done_word = sent_word s (sym s.told)
 
 pub sent_writes : (h m g : ℕ) (word d w : List ℕ) (r : Written) → in_shape h m ≡ true → length d ≡ carriers m →
-    g < messages h m → Sent h m g word d r w → (r ≡ Done) × (w ≡ word)
+    g < messages h m → Sent h m g word d r w → (r ≡ Ok tt) × (w ≡ word)
 sent_writes h m g word d w r shape long inside s =
     let e = send_allowed h m (length d) g (record { shape = shape; long = long; message = inside }) in
-    (written_told_inj r Done (s.told ∙ e), sent_word s e)
+    (written_told_inj r (Ok tt) (s.told ∙ e), sent_word s e)
 
 pub sent_keeps : {h m g : ℕ} {word d w : List ℕ} {r : Written} → Sent h m g word d r w → (k : ℕ) (v : List ℕ) →
     written_told r ≡ refuses k v → w ≡ d

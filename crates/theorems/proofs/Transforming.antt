@@ -22,7 +22,7 @@ use Rattle.rules.specs.Spectrum.{spectrum_at, stages}
 use Rattle.rules.specs.Outcome.{Outcome, gives, refuses, allowed}
 use Rattle.rules.specs.Refusal.{transform_refusal}
 use Rattle.rules.specs.Areas.{in_first, first_after, second_after, part_of, part_length, part_in_first}
-use Rattle.kinds.specs.declared.Judged.{Judged}
+use Rattle.kinds.specs.Refusals.{Judged}
 use Rattle.kinds.specs.Refusals.{judged_told}
 use Rattle.transform.specs.Transformed.{Ran, Handed, AtLast, AtLastOf}
 use Rattle.theorems.specs.Rows.{TransformRow}

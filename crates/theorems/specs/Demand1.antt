@@ -8,7 +8,7 @@
 -- and the equations of what is told. The rows: Rows.antt.
 -- Defines:  Demand1    the claims
 -- Proved in proofs/Proved.antt.  Assumes nothing: these are definitions.
-use Rattle.std.specs.Prelude.{ℕ, ◌≡◌, Bool, List, [], ◌↔◌, ℤ, length}
+use Rattle.std.specs.Prelude.{ℕ, ◌≡◌, Bool, Ok, List, [], ◌↔◌, ℤ, length}
 use seplogic.Ra.Ura.{Ura}
 use base.Logic.{ent}
 use types.Logic.{Logic, sem}
@@ -18,21 +18,19 @@ use Rattle.rules.specs.Word.{word_of, partner_of}
 use Rattle.rules.specs.Outcome.{Outcome, refuses, allowed}
 use Rattle.rules.specs.Refusal.{pair_outcome, read_outcome, soft_refusal, hard_refusal, transform_refusal}
 use Rattle.rules.specs.Decoding.{SoftAnswer, HardAnswer}
-use Rattle.encoder.specs.declared.Written.{Written}
+use Rattle.encoder.specs.Sent.{Written}
 use Rattle.encoder.specs.Sent.{written_told, Sent}
-use Rattle.pair.specs.declared.Paired.{Paired}
+use Rattle.pair.specs.Paired.{Paired}
 use Rattle.pair.specs.Paired.{paired_told}
-use Rattle.reader.specs.declared.Reading.{Reading}
+use Rattle.reader.specs.Reading.{Reading}
 use Rattle.reader.specs.Reading.{reading_told}
-use Rattle.kinds.specs.declared.Judged.{Judged}
+use Rattle.kinds.specs.Refusals.{Judged}
 use Rattle.kinds.specs.Refusals.{judged_told}
 use Rattle.transform.specs.Transformed.{Ran, Handed, AtLast, AtLastOf}
-use Rattle.answers.specs.declared.Loudest.{Loudest}
-use Rattle.answers.specs.declared.Closest.{Closest}
-use Rattle.answers.specs.declared.Heard.{Heard}
-use Rattle.answers.specs.declared.Heard.TheVariants.{Found as HeardFound}
-use Rattle.answers.specs.declared.Matched.{Matched}
-use Rattle.answers.specs.declared.Matched.TheVariants.{Found as MatchedFound}
+use Rattle.answers.specs.Decoded.{Loudest}
+use Rattle.answers.specs.Decoded.{Closest}
+use Rattle.answers.specs.Decoded.{Heard}
+use Rattle.answers.specs.Decoded.{Matched}
 use Rattle.answers.specs.Decoded.{heard_told, matched_told, Hears, Matches}
 use Rattle.theorems.specs.Rows.{SendRow, PairRow, ReadRow, SoftRow, HardRow, TransformRow}
 
@@ -57,9 +55,9 @@ pub record Demand1 : Type 2 where
       (r.now ≡ []) ↔ (TransformRow m x.now y.now allowed → ⊥)
   -- A decoder refuses nothing else: where no test of its table holds, a message is found.
   pub soft_answers : (h m : ℕ) (ys : List ℤ) (r : Heard) → soft_refusal h m ys ≡ allowed → Hears h m ys r →
-      (a : Loudest) × (r ≡ HeardFound a)
+      (a : Loudest) × (r ≡ Ok a)
   pub hard_answers : (h m : ℕ) (w : List ℕ) (r : Matched) → hard_refusal h m w ≡ allowed → Matches h m w r →
-      (a : Closest) × (r ≡ MatchedFound a)
+      (a : Closest) × (r ≡ Ok a)
   -- A REFUSAL WRITES NOTHING (D1.3). The slice that held d, and the areas that held a and b, hold them still.
   pub encode_keeps : (h m g : ℕ) (d w : List ℕ) (r : Written) → Sent h m g (word_of h m g) d r w →
       (k : ℕ) (v : List ℕ) → written_told r ≡ refuses k v → w ≡ d

@@ -4,7 +4,7 @@
 -- A claim about a call takes what the call ensures as its premise. `Symbols h m w` says that w is N symbols in range.
 -- Defines:  Demand2    the claims
 -- Proved in proofs/Proved.antt.  Assumes nothing: these are definitions.
-use Rattle.std.specs.Prelude.{ℕ, suc, ◌+◌, ◌-◌, ◌*◌, ◌/◌, ◌%◌, ◌^◌, ◌≤◌, ◌<◌, ◌≡◌, true, ◌≢◌, ◌↔◌, ℤ, pos, ◌+ℤ◌, length}
+use Rattle.std.specs.Prelude.{ℕ, suc, ◌+◌, ◌-◌, ◌*◌, ◌/◌, ◌%◌, ◌^◌, ◌≤◌, ◌<◌, ◌≡◌, true, false, Ok, ◌≢◌, ◌↔◌, ℤ, pos, ◌+ℤ◌, length}
 use Rattle.std.specs.Prelude.{get_or}
 use mathlib.Core.List.{List, [], Memᴰ}
 use Rattle.range.specs.Below.{sum_below, list_below, ◌! }
@@ -21,18 +21,14 @@ use Rattle.rules.specs.Soft.{correlation}
 use Rattle.rules.specs.Best.{Tied, Greatest, Nearest}
 use Rattle.rules.specs.Outcome.{gives, refuses}
 use Rattle.rules.specs.Refusal.{pair_outcome, read_outcome}
-use Rattle.encoder.specs.declared.Written.{Written}
-use Rattle.encoder.specs.declared.Written.TheVariants.{Done}
+use Rattle.encoder.specs.Sent.{Written}
 use Rattle.encoder.specs.Sent.{Sent}
-use Rattle.pair.specs.declared.Paired.{Paired}
-use Rattle.pair.specs.declared.Paired.TheVariants.{Yes, No}
+use Rattle.pair.specs.Paired.{Paired}
 use Rattle.pair.specs.Paired.{paired_told}
-use Rattle.reader.specs.declared.Reading.{Reading}
+use Rattle.reader.specs.Reading.{Reading}
 use Rattle.reader.specs.Reading.{reading_told}
-use Rattle.answers.specs.declared.Loudest.{Loudest}
-use Rattle.answers.specs.declared.Closest.{Closest}
-use Rattle.answers.specs.declared.Heard.TheVariants.{Found as HeardFound}
-use Rattle.answers.specs.declared.Matched.TheVariants.{Found as MatchedFound}
+use Rattle.answers.specs.Decoded.{Loudest}
+use Rattle.answers.specs.Decoded.{Closest}
 use Rattle.answers.specs.Decoded.{Hears, Matches}
 use Rattle.theorems.specs.Names.{word, partner, Encodes, Partners}
 
@@ -72,9 +68,9 @@ pub record Demand2 : Type 0 where
       + 2 ^ (h - 1) * digit m i (head_of (path_at m (label_path h m (label_of h m g))))) % 2 ^ h
   -- Encode writes the word and partner the partner, for every message of every shape, wherever the slice has N places.
   pub encode_writes : (h m g : ℕ) (d w : List ℕ) (r : Written) → in_shape h m ≡ true → length d ≡ carriers m →
-      g < messages h m → Sent h m g (word_of h m g) d r w → (r ≡ Done) × (w ≡ word_of h m g)
+      g < messages h m → Sent h m g (word_of h m g) d r w → (r ≡ Ok tt) × (w ≡ word_of h m g)
   pub partner_writes : (h m g : ℕ) (d w : List ℕ) (r : Written) → in_shape h m ≡ true → length d ≡ carriers m →
-      g < messages h m → Sent h m g (partner_of h m g) d r w → (r ≡ Done) × (w ≡ partner_of h m g)
+      g < messages h m → Sent h m g (partner_of h m g) d r w → (r ≡ Ok tt) × (w ≡ partner_of h m g)
   pub partner_not_word : (h m g : ℕ) → in_shape h m ≡ true → g < messages h m → partner_of h m g ≢ word_of h m g
   -- READING of any symbols: message g exactly where g's word is these symbols; 5 exactly where no message has them.
   pub read_finds : (h m : ℕ) (w : List ℕ) (g : ℕ) (r : Reading) → reading_told r ≡ read_outcome h m w →
@@ -90,7 +86,7 @@ pub record Demand2 : Type 0 where
   -- says yes to what encode and partner write.
   pub word_partner : (h m g : ℕ) → in_shape h m ≡ true → g < messages h m → GolayPair h m (word h m g) (partner h m g)
   pub written_yes : (h m g : ℕ) (d e w v : List ℕ) (r : Paired) → Encodes h m g d w → Partners h m g e v →
-      paired_told r ≡ pair_outcome h m w v → r ≡ Yes
+      paired_told r ≡ pair_outcome h m w v → r ≡ Ok true
   -- The counts are 001's condition (Definition 1): for any two words of any length, every h from 1 on and every shift
   -- u, they agree at u exactly where C_a(u) + C_b(u) = 0.
   pub counts_iff_zero : (h n : ℕ) (a b : ℕ → ℕ) (u : ℕ) → 1 ≤ h →
@@ -102,22 +98,23 @@ pub record Demand2 : Type 0 where
   -- Of any two words of a shape, the pair check says yes exactly to Golay pairs, which are those that cancel, and no
   -- exactly to the others.
   pub yes_iff_pair : (h m : ℕ) (w v : List ℕ) (r : Paired) → Symbols h m w → Symbols h m v →
-      paired_told r ≡ pair_outcome h m w v → (r ≡ Yes) ↔ GolayPair h m (symbol_at w) (symbol_at v)
+      paired_told r ≡ pair_outcome h m w v → (r ≡ Ok true) ↔ GolayPair h m (symbol_at w) (symbol_at v)
   pub yes_iff_cancel : (h m : ℕ) (w v : List ℕ) (r : Paired) → Symbols h m w → Symbols h m v →
-      paired_told r ≡ pair_outcome h m w v → (r ≡ Yes) ↔ Cancel h m (symbol_at w) (symbol_at v)
+      paired_told r ≡ pair_outcome h m w v → (r ≡ Ok true) ↔ Cancel h m (symbol_at w) (symbol_at v)
   pub no_iff_not_cancel : (h m : ℕ) (w v : List ℕ) (r : Paired) → Symbols h m w → Symbols h m v →
-      paired_told r ≡ pair_outcome h m w v → (r ≡ No) ↔ (Cancel h m (symbol_at w) (symbol_at v) → ⊥)
+      paired_told r ≡ pair_outcome h m w v → (r ≡ Ok false) ↔ (Cancel h m (symbol_at w) (symbol_at v) → ⊥)
   -- A word paired with itself is never a pair, and gets a no.
   pub self_not_pair : (h m : ℕ) (a : ℕ → ℕ) → 1 ≤ h → 1 ≤ m → GolayPair h m a a → ⊥
-  pub self_no : (h m : ℕ) (w : List ℕ) (r : Paired) → Symbols h m w → paired_told r ≡ pair_outcome h m w w → r ≡ No
+  pub self_no : (h m : ℕ) (w : List ℕ) (r : Paired) → Symbols h m w → paired_told r ≡ pair_outcome h m w w →
+      r ≡ Ok false
   -- DECODERS, for two and four phases. What is found has the greatest correlation of all words of the shape, or the
   -- least distance, and is the first in label order that has it.
-  pub soft_greatest : (h m : ℕ) (ys : List ℤ) (a : Loudest) → Hears h m ys (HeardFound a) →
-      Greatest h m ys (label_of h m a.message.0) a.correlation
-  pub hard_nearest : (h m : ℕ) (w : List ℕ) (a : Closest) → Matches h m w (MatchedFound a) →
-      Nearest h m w (label_of h m a.message.0) a.distance
+  pub soft_greatest : (h m : ℕ) (ys : List ℤ) (a : Loudest) → Hears h m ys (Ok a) →
+      Greatest h m ys (label_of h m a.message.0) a.value
+  pub hard_nearest : (h m : ℕ) (w : List ℕ) (a : Closest) → Matches h m w (Ok a) →
+      Nearest h m w (label_of h m a.message.0) a.value
   -- It is tied exactly where another label of the shape has that value too.
-  pub soft_tied : (h m : ℕ) (ys : List ℤ) (a : Loudest) → Hears h m ys (HeardFound a) →
-      Tied (labels h m) (correlation h m ys) (label_of h m a.message.0) a.correlation a.tied
-  pub hard_tied : (h m : ℕ) (w : List ℕ) (a : Closest) → Matches h m w (MatchedFound a) →
-      Tied (labels h m) (distance_to h m w) (label_of h m a.message.0) a.distance a.tied
+  pub soft_tied : (h m : ℕ) (ys : List ℤ) (a : Loudest) → Hears h m ys (Ok a) →
+      Tied (labels h m) (correlation h m ys) (label_of h m a.message.0) a.value a.tied
+  pub hard_tied : (h m : ℕ) (w : List ℕ) (a : Closest) → Matches h m w (Ok a) →
+      Tied (labels h m) (distance_to h m w) (label_of h m a.message.0) a.value a.tied

@@ -9,7 +9,7 @@ use Rattle.rules.specs.Word.{symbol_at}
 use Rattle.rules.specs.Symbols.{Symbols}
 use Rattle.rules.specs.Distance.{hamming, lee}
 use Rattle.rules.specs.Outcome.{gives}
-use Rattle.answers.specs.declared.Matched.{Matched}
+use Rattle.answers.specs.Decoded.{Matched}
 use Rattle.answers.specs.Decoded.{matched_told, Matches}
 use Rattle.theorems.specs.Names.{word}
 

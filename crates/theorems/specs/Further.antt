@@ -14,10 +14,10 @@ use Rattle.rules.specs.Distance.{hamming, lee}
 use Rattle.rules.specs.Soft.{correlation, clean}
 use Rattle.rules.specs.Outcome.{gives}
 use Rattle.rules.specs.Refusal.{read_outcome}
-use Rattle.reader.specs.declared.Reading.{Reading}
+use Rattle.reader.specs.Reading.{Reading}
 use Rattle.reader.specs.Reading.{reading_told}
-use Rattle.answers.specs.declared.Heard.{Heard}
-use Rattle.answers.specs.declared.Matched.{Matched}
+use Rattle.answers.specs.Decoded.{Heard}
+use Rattle.answers.specs.Decoded.{Matched}
 use Rattle.answers.specs.Decoded.{heard_told, matched_told, Hears, Matches}
 use Rattle.theorems.specs.Names.{word, partner, Encodes}
 

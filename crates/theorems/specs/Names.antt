@@ -3,10 +3,9 @@
 --           Encodes h m g d w          encode of message g writes, and leaves w in the slice that held d
 --           Partners h m g d w         the same of partner
 -- Assumes nothing: these are definitions.
-use Rattle.std.specs.Prelude.{ℕ, List}
+use Rattle.std.specs.Prelude.{ℕ, Ok, List}
 use Rattle.rules.specs.Label.{label_of}
 use Rattle.rules.specs.Word.{word_at, partner_at, word_of, partner_of}
-use Rattle.encoder.specs.declared.Written.TheVariants.{Done}
 use Rattle.encoder.specs.Sent.{Sent}
 
 abbrev pub word : ℕ → ℕ → ℕ → ℕ → ℕ
@@ -16,7 +15,7 @@ abbrev pub partner : ℕ → ℕ → ℕ → ℕ → ℕ
 partner h m g = partner_at h m (label_of h m g)
 
 abbrev pub Encodes : ℕ → ℕ → ℕ → List ℕ → List ℕ → Type 0
-Encodes h m g d w = Sent h m g (word_of h m g) d Done w
+Encodes h m g d w = Sent h m g (word_of h m g) d (Ok tt) w
 
 abbrev pub Partners : ℕ → ℕ → ℕ → List ℕ → List ℕ → Type 0
-Partners h m g d w = Sent h m g (partner_of h m g) d Done w
+Partners h m g d w = Sent h m g (partner_of h m g) d (Ok tt) w

@@ -14,7 +14,7 @@ use Rattle.rules.specs.Shape.{carriers}
 use Rattle.rules.specs.Spectrum.{spectrum_at, stages}
 use Rattle.rules.specs.Outcome.{refuses, allowed}
 use Rattle.rules.specs.Refusal.{transform_refusal}
-use Rattle.kinds.specs.declared.Judged.{Judged}
+use Rattle.kinds.specs.Refusals.{Judged}
 use Rattle.kinds.specs.Refusals.{judged_told}
 use Rattle.transform.specs.Transformed.{Ran, Handed, AtLast, AtLastOf}
 use Rattle.theorems.specs.Rows.{TransformRow}

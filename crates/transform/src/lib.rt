@@ -20,8 +20,6 @@ ghost use Rattle.rules.specs.Refusal.{transform_refusal};
 ghost use Rattle.transform.specs.Transformed.{Ran, Handed, AtLast};
 ghost use Rattle.transform.specs.Butterflies.{butterfly, first_at, second_at, Readable, Block};
 
-use kinds::Judged;
-
 // The spectrum of the first N entries of the first area, as a part of the area that holds it: of the first for even m,
 // of the second for odd m. The other area then holds what stood after stage m - 1, and entries from N on stay in both.
 // Refuses 1 an m out of range, 2 an area shorter than N, 7 one of the first N entries of the first area out of range.
@@ -48,9 +46,9 @@ pub fn transform<'a>(m: u32, first: &'a mut [i32], second: &'a mut [i32]) -> &'a
 pub fn run(m: u32, first: &mut [i32], second: &mut [i32]) -> usize
     ensures { Ran m first.old second.old result first.new second.new }
 {
-    if let Judged::Refused(_) = refusals::transform(m, first, second) {
+    let Ok(()) = refusals::transform(m, first, second) else {
         return 0;
-    }
+    };
     let n = shape::power(m) as usize;
     rounds(m, n, first, second);
     n

@@ -6,16 +6,16 @@ use mathlib.Core.Path.{◌≡◌, sym, ◌∙◌, ap₂, subst}
 use mathlib.Core.List.{List}
 use Rattle.rules.specs.Word.{word_of, partner_of}
 use Rattle.rules.specs.Refusal.{pair_outcome, read_outcome}
-use Rattle.encoder.specs.declared.Written.{Written}
+use Rattle.encoder.specs.Sent.{Written}
 use Rattle.encoder.specs.Sent.{Sent}
 use Rattle.encoder.proofs.SentLaws.{sent_done, sent_word}
-use Rattle.pair.specs.declared.Paired.{Paired}
+use Rattle.pair.specs.Paired.{Paired}
 use Rattle.pair.specs.Paired.{paired_told}
 use Rattle.pair.proofs.Unique.{paired_unique}
-use Rattle.reader.specs.declared.Reading.{Reading}
+use Rattle.reader.specs.Reading.{Reading}
 use Rattle.reader.specs.Reading.{reading_told}
 use Rattle.reader.proofs.Unique.{reading_unique}
-use Rattle.answers.specs.declared.Matched.{Matched}
+use Rattle.answers.specs.Decoded.{Matched}
 use Rattle.answers.specs.Decoded.{Matches}
 use Rattle.answers.proofs.Unique.{matches_unique}
 use Rattle.theorems.proofs.Proved.{theorems}

@@ -3,16 +3,15 @@
 -- Defines:  written h m g d w     what encode or partner leaves in a slice that held d, of a word w for message g
 --           ReadBack, HardBack, CheckBack  the promises, of slices before and after and the answer r
 -- Laws: proofs/TripLaws.antt (only one outcome keeps each).  Assumes nothing: these are definitions.
-use Rattle.std.specs.Prelude.{ℕ, ◌≤◌, ◌≡◌, false, List, length}
+use Rattle.std.specs.Prelude.{ℕ, ◌≤◌, ◌≡◌, true, false, Ok, List, length}
 use Rattle.rules.specs.Word.{word_of, partner_of}
 use Rattle.rules.specs.Outcome.{gives, allowed, leaves}
 use Rattle.rules.specs.Refusal.{send_refusal, pair_outcome, read_outcome}
-use Rattle.pair.specs.declared.Paired.{Paired}
-use Rattle.pair.specs.declared.Paired.TheVariants.{Yes}
+use Rattle.pair.specs.Paired.{Paired}
 use Rattle.pair.specs.Paired.{paired_told}
-use Rattle.reader.specs.declared.Reading.{Reading}
+use Rattle.reader.specs.Reading.{Reading}
 use Rattle.reader.specs.Reading.{reading_told}
-use Rattle.answers.specs.declared.Matched.{Matched}
+use Rattle.answers.specs.Decoded.{Matched}
 use Rattle.answers.specs.Decoded.{matched_told, Matches}
 
 abbrev pub written : ℕ → ℕ → ℕ → List ℕ → List ℕ → List ℕ
@@ -33,4 +32,4 @@ pub record CheckBack (h m g : ℕ) (d e : List ℕ) (r : Paired) (d' e' : List �
   pub slice : d' ≡ written h m g d (word_of h m g)
   pub other : e' ≡ written h m g e (partner_of h m g)
   pub answer : paired_told r ≡ pair_outcome h m d' e'
-  pub back : send_refusal h m (length d) g ≡ allowed → send_refusal h m (length e) g ≡ allowed → r ≡ Yes
+  pub back : send_refusal h m (length d) g ≡ allowed → send_refusal h m (length e) g ≡ allowed → r ≡ Ok true

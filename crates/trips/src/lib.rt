@@ -5,16 +5,14 @@
 ghost use Rattle.trips.specs.Trips.{ReadBack, HardBack, CheckBack};
 
 use answers::Matched;
-use kinds::MessageNumber;
-use pair::Paired;
-use reader::Reading;
+use kinds::{MessageNumber, Refusal};
 
 // Encodes a message and reads the word: the message comes back. Where encode refuses, the slice stays as it was, and is
 // read so.
-pub fn read_back(h: u32, m: u32, message: MessageNumber, word: &mut [u8]) -> Reading
+pub fn read_back(h: u32, m: u32, message: MessageNumber, word: &mut [u8]) -> Result<MessageNumber, Refusal>
     ensures { ReadBack h m message.0 word.old result word.new }
 {
-    encoder::encode(h, m, message, word);
+    let _ = encoder::encode(h, m, message, word);
     reader::read(h, m, word)
 }
 
@@ -23,7 +21,7 @@ pub fn read_back(h: u32, m: u32, message: MessageNumber, word: &mut [u8]) -> Rea
 pub fn hard_back(h: u32, m: u32, message: MessageNumber, word: &mut [u8]) -> Matched
     ensures { HardBack h m message.0 word.old result word.new }
 {
-    encoder::encode(h, m, message, word);
+    let _ = encoder::encode(h, m, message, word);
     decoder::hard(h, m, word)
 }
 
@@ -35,12 +33,11 @@ pub fn check_back(
     message: MessageNumber,
     word: &mut [u8],
     other: &mut [u8],
-) -> Paired
+) -> Result<bool, Refusal>
     ensures { CheckBack h m message.0 word.old other.old result
         word.new other.new }
 {
-    let number = message.0;
-    encoder::encode(h, m, MessageNumber(number), word);
-    encoder::partner(h, m, MessageNumber(number), other);
+    let _ = encoder::encode(h, m, message, word);
+    let _ = encoder::partner(h, m, message, other);
     pair::check(h, m, word, other)
 }

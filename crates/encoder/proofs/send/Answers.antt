@@ -10,7 +10,6 @@ use Rattle.rules.specs.Outcome.{allowed}
 use Rattle.rules.specs.Refusal.{send_refusal}
 use Rattle.rules.proofs.Messages.{label_of_lt}
 use Rattle.rules.proofs.RefusalLaws.{SendTaken, send_taken}
-use Rattle.kinds.specs.Refusals.{judged_told}
 use Rattle.encoder.specs.Arrays.{lifted_at}
 use Rattle.encoder.proofs.SentLaws.{sent_done}
 use Rattle.encoder.proofs.send.Goals as goal
@@ -18,7 +17,7 @@ use Rattle.encoder.proofs.send.Goals as goal
 pub fill-requires : goal.fill-requires
 fill-requires c =
     let free : send_refusal c.args.h c.args.m (length c.args.out.now) c.args.message.0 ≡ allowed =
-    sym c.send.ensures ∙ ap judged_told c.in_default.is in
+    sym c.in_ok-send.ensures in
     let taken : SendTaken c.args.h c.args.m (length c.args.out.now) c.args.message.0 = send_taken _ _ _ _ free in
     let label_is : c.label_of-label.result ≡ label_of c.args.h c.args.m c.args.message.0 =
     c.label_of-label.ensures.0 taken.shape in
@@ -30,7 +29,7 @@ fill-requires c =
 pub returns : goal.returns
 returns c =
     let free : send_refusal c.args.h c.args.m (length c.args.out.now) c.args.message.0 ≡ allowed =
-    sym c.send.ensures ∙ ap judged_told c.in_default.is in
+    sym c.in_ok-send.ensures in
     let taken : SendTaken c.args.h c.args.m (length c.args.out.now) c.args.message.0 = send_taken _ _ _ _ free in
     let label_is : c.label_of-label.result ≡ label_of c.args.h c.args.m c.args.message.0 =
     c.label_of-label.ensures.0 taken.shape in

@@ -1,29 +1,21 @@
 -- `reader::read` meets its contract: it answers what the question about it refuses, and else what the search finds.
 -- Assumes nothing.
-use mathlib.Core.Path.{◌≡◌, sym, ◌∙◌, ap}
-use Rattle.rules.specs.Outcome.{allowed}
-use Rattle.rules.specs.Refusal.{word_refusal, read_outcome}
+use Rattle.std.proofs.Common.{rules}
+use mathlib.Core.Path.{sym}
+use Rattle.rules.specs.Refusal.{read_outcome}
 use Rattle.rules.proofs.OutcomeLaws.{and_then_refused}
 use Rattle.rules.proofs.RefusalLaws.{word_taken}
-use Rattle.kinds.specs.Refusals.{judged_told}
-use Rattle.reader.proofs.read.Goals.{In_default}
+use Rattle.kinds.proofs.RefusalLaws.{handed_on}
 use Rattle.reader.proofs.read.Goals as goal
 
--- past the question nothing is refused
-free : (c : In_default) → word_refusal c.args.h c.args.m c.args.word.now ≡ allowed
-free c =
-    sym c.word.ensures ∙ ap judged_told c.in_default.is
-
-pub returns-in-Refused : goal.returns-in-Refused
+pub returns-in_err-word : goal.returns-in_err-word
 unfolding read_outcome
-returns-in-Refused c =
-    and_then_refused _ (sym (ap judged_told c.in-Refused.is) ∙ c.word.ensures)
+returns-in_err-word c =
+    handed_on (λ g. g.0) _ c.in_err-word.field-0.0 (search rules) (and_then_refused _ c.in_err-word.ensures)
 
 pub returns : goal.returns
 unfolding read_outcome
-returns c =
-    rw (free (goal.at.returns c).In_default) c.search.ensures
+returns c = rw (sym c.in_ok-word.ensures) c.search.ensures
 
 pub search-requires : goal.search-requires
-search-requires c =
-    word_taken _ _ _ (free (goal.at.search-requires c).In_default)
+search-requires c = word_taken _ _ _ (sym c.in_ok-word.ensures)

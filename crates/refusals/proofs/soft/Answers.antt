@@ -1,13 +1,22 @@
 -- `refusals::soft` meets its contract: test after test, as the rules nest them.  Assumes nothing.
-use mathlib.Core.Path.{◌∙◌}
+use Rattle.std.proofs.Common.{rules}
 use Rattle.rules.specs.Refusal.{soft_refusal}
-use Rattle.rules.proofs.OutcomeLaws.{and_then_refuse}
-use Rattle.refusals.proofs.Rungs.{after_test}
+use Rattle.kinds.proofs.RefusalLaws.{handed_on}
+use Rattle.refusals.proofs.Rungs.{stops, passes}
 use Rattle.refusals.proofs.soft.Goals as goal
+
+pub returns-in_err-shape : goal.returns-in_err-shape
+unfolding soft_refusal
+returns-in_err-shape c =
+    handed_on (λ u. u) _ c.in_err-shape.field-0.0 (search rules)
+    (stops _ _ _ _ c.in_err-shape.ensures)
+
+pub returns-in_err-octary : goal.returns-in_err-octary
+unfolding soft_refusal
+returns-in_err-octary c =
+    handed_on (λ u. u) _ c.in_err-octary.field-0.0 (search rules)
+    (passes _ _ _ _ c.in_ok-shape.ensures (stops _ _ _ _ c.in_err-octary.ensures))
 
 pub returns : goal.returns
 unfolding soft_refusal
-returns c =
-    after_test 2 c.then.ensures c.bad_soft_length.ensures
-    (after_test 6 c.then-asked.ensures c.is_octary.ensures c.in_shape-asked.ensures)
-    ∙ simp and_then_refuse
+returns c = passes _ _ _ _ c.in_ok-shape.ensures (passes _ _ _ _ c.in_ok-octary.ensures c.soft_length.ensures)

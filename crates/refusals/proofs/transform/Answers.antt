@@ -1,17 +1,22 @@
--- `refusals::transform` meets its contract: test after test, as the rules nest them; the two areas are one test there.
--- Assumes nothing.
-use mathlib.Core.Path.{◌∙◌, ap}
-use mathlib.Core.Bool.{not}
+-- `refusals::transform` meets its contract: test after test, as the rules nest them.  Assumes nothing.
+use Rattle.std.proofs.Common.{rules}
 use Rattle.rules.specs.Refusal.{transform_refusal}
-use Rattle.rules.proofs.OutcomeLaws.{and_then_refuse, refuse_or}
-use Rattle.refusals.proofs.Rungs.{first_test, after, after_test}
+use Rattle.kinds.proofs.RefusalLaws.{handed_on}
+use Rattle.refusals.proofs.Rungs.{stops, passes}
 use Rattle.refusals.proofs.transform.Goals as goal
+
+pub returns-in_err-carriers : goal.returns-in_err-carriers
+unfolding transform_refusal
+returns-in_err-carriers c =
+    handed_on (λ u. u) _ c.in_err-carriers.field-0.0 (search rules)
+    (stops _ _ _ _ c.in_err-carriers.ensures)
+
+pub returns-in_err-areas : goal.returns-in_err-areas
+unfolding transform_refusal
+returns-in_err-areas c =
+    handed_on (λ u. u) _ c.in_err-areas.field-0.0 (search rules)
+    (passes _ _ _ _ c.in_ok-carriers.ensures (stops _ _ _ _ c.in_err-areas.ensures))
 
 pub returns : goal.returns
 unfolding transform_refusal
-returns c =
-    after _ c.values.ensures
-    (after_test 2 c.then-asked-3.ensures c.short_area-2.ensures
-    (after_test 2 c.then-asked-2.ensures c.short_area.ensures
-    (first_test 1 c.then-asked.ensures (ap not c.in_m.ensures))))
-    ∙ simp (and_then_refuse, refuse_or)
+returns c = passes _ _ _ _ c.in_ok-carriers.ensures (passes _ _ _ _ c.in_ok-areas.ensures c.values.ensures)

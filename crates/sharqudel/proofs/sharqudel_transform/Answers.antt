@@ -3,7 +3,5 @@
 use Rattle.sharqudel.proofs.OutLaws.{transformed_out_refused}
 use Rattle.sharqudel.proofs.sharqudel_transform.Goals as goal
 
-pub returns-in-Refused : goal.returns-in-Refused
-returns-in-Refused c =
-    let told = rw c.in-Refused.is at c.transform.ensures in
-    transformed_out_refused _ _ _ _ _ c.in-Refused.why told c.tell.ensures
+pub returns-in-Err : goal.returns-in-Err
+returns-in-Err c = transformed_out_refused _ _ _ _ _ c.in-Err.why c.in-Err.ensures c.tell.ensures
