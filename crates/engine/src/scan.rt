@@ -50,7 +50,7 @@ impl Table<'_> {
             → pair_at self.now.q self.now.half self.now.w self.now.numbers.now s c i ≤ second }
     {
         for s in 0..self.q {
-            if self.pair(s, c).passes(second) {
+            if second < self.pair(s, c).greatest() {
                 return true;
             }
         }

@@ -1,5 +1,5 @@
 // The tables of the search: runs of numbers, and two runs that are added number by number.
-ghost use Rattle.std.specs.Prelude.{ℕ, ◌+◌, ◌*◌, ◌<◌, ◌≤◌, ◌≡◌, false, length, get_or};
+ghost use Rattle.std.specs.Prelude.{ℕ, ◌+◌, ◌*◌, ◌<◌, ◌≤◌, ◌≡◌, length, get_or};
 ghost use Rattle.totals.specs.Climb.{pair_at};
 ghost use Rattle.engine.specs.SearchTables.{Runs, most_total};
 
@@ -67,15 +67,16 @@ impl Pair<'_> {
         }
     }
 
-    // Whether a sum is above a number. All of them are looked at, so that the compiler can look at several at once.
-    pub(super) fn passes(&self, most: u32) -> bool
-        ensures { result ≡ false → (i : ℕ) → i < length self.now.x.now
-            → get_or self.now.x.now i 0 + get_or self.now.y.now i 0 ≤ most }
+    // A number that no sum is above: the greatest of them, or 0. All of them are looked at, so that the compiler can look
+    // at several at once.
+    pub(super) fn greatest(&self) -> u32
+        ensures { (i : ℕ) → i < length self.now.x.now
+            → get_or self.now.x.now i 0 + get_or self.now.y.now i 0 ≤ result }
     {
-        let mut found = false;
+        let mut most = 0;
         for i in 0..self.x.len() {
-            found |= most < self.sum(i);
+            most = most.max(self.sum(i));
         }
-        found
+        most
     }
 }
