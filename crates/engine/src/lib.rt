@@ -59,6 +59,7 @@ fn small(gains: &[u32]) -> bool
 }
 
 // x modulo n, for an x below 2 n.
+// Kept: a division takes so long beside the addition that it serves that decoding takes a third longer.
 fn wrap(n: usize, x: usize) -> usize
     requires { x < n + n }
     ensures { result ≡ x % n }

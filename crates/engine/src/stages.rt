@@ -6,59 +6,38 @@ ghost use Rattle.totals.specs.Climb.{climbed, climbed_at};
 use crate::tables::Table;
 
 impl Table<'_> {
-    // One stage. Short runs are written out above the loops, so that the compiler knows how long they are; the last
-    // call serves any other.
+    // One stage.
+    // Kept: short runs are written out above the loops, so that the compiler knows how long they are; without the arms
+    // but the last, which serves any other length, decoding takes a quarter longer.
     pub(super) fn stage(&self, to: &mut [u32])
         requires { length to.old ≡ self.now.q * self.now.half * self.now.q * self.now.w }
         ensures { to.new ≡ climbed self.now.q self.now.half self.now.w self.now.numbers.now }
     {
-        let Table {
-            q,
-            half,
-            numbers,
-            ..
-        } = *self;
         match self.w {
-            1 => Table {
-                q,
-                half,
-                w: 1,
-                numbers,
-            }
-            .pass(to),
-            4 => Table {
-                q,
-                half,
-                w: 4,
-                numbers,
-            }
-            .pass(to),
-            16 => Table {
-                q,
-                half,
-                w: 16,
-                numbers,
-            }
-            .pass(to),
-            64 => Table {
-                q,
-                half,
-                w: 64,
-                numbers,
-            }
-            .pass(to),
-            _ => self.pass(to),
+            1 => self.pass(1, to),
+            2 => self.pass(2, to),
+            4 => self.pass(4, to),
+            8 => self.pass(8, to),
+            16 => self.pass(16, to),
+            64 => self.pass(64, to),
+            w => self.pass(w, to),
         }
     }
 
-    // One stage for runs of any length: for each run t the runs of its coefficients.
-    fn pass(&self, to: &mut [u32])
-        requires { length to.old ≡ self.now.q * self.now.half * self.now.q * self.now.w }
-        ensures { to.new ≡ climbed self.now.q self.now.half self.now.w self.now.numbers.now }
+    // One stage for runs of w numbers, which are the table's: for each run t the runs of its coefficients.
+    fn pass(&self, w: usize, to: &mut [u32])
+        requires { (w ≡ self.now.w) × (length to.old ≡ self.now.q * self.now.half * self.now.q * w) }
+        ensures { to.new ≡ climbed self.now.q self.now.half w self.now.numbers.now }
     {
-        let step = self.q * self.w;
-        for t in 0..self.q * self.half {
-            self.fan(t, &mut to[t * step..(t + 1) * step]);
+        let table = Table {
+            q: self.q,
+            half: self.half,
+            w,
+            numbers: self.numbers,
+        };
+        let step = table.q * w;
+        for t in 0..table.q * table.half {
+            table.fan(t, &mut to[t * step..(t + 1) * step]);
         }
     }
 

@@ -8,13 +8,13 @@ use Rattle.engine.proofs.tables.Table.pass.Goals.{In-loop-t}
 use Rattle.engine.proofs.tables.Table.pass.Goals as goal
 
 -- the runs of t lie in the table that is written
-room : (c : In-loop-t) → (c.loop-t.t + 1) * (c.args.self.now.q * c.args.self.now.w) ≤ length c.args.to.now
+room : (c : In-loop-t) → (c.loop-t.t + 1) * (c.args.self.now.q * c.args.w) ≤ length c.args.to.now
 room c =
     let table = c.args.self.now in
     omega (
       arith,
-      times_within c.loop-t.t (table.q * table.half) (table.q * table.w) c.loop-t-test.true,
-      c.requires,
+      times_within c.loop-t.t (table.q * table.half) (table.q * c.args.w) c.loop-t-test.true,
+      c.requires.1,
     )
 
 pub overflow_mul-t : goal.overflow_mul-t
@@ -36,7 +36,7 @@ fan-requires c =
     let table = c.args.self.now in
     let bound = room (goal.at.fan-requires c).In-loop-t in (
       c.loop-t-test.true,
-      length-part (c.loop-t.t * (table.q * table.w)) _ (table.q * table.w) c.loop-t.to (omega arith)
+      length-part (c.loop-t.t * (table.q * c.args.w)) _ (table.q * c.args.w) c.loop-t.to (omega arith)
           (omega (arith, bound, c.loop-t.auto.to)),
     )
 
@@ -45,9 +45,9 @@ loop-t-preserved c =
     let at = c.loop-t in
     let table = c.args.self.now in
     let bound = room (goal.at.loop-t-preserved c).In-loop-t in
-    written_next _ at.to c.fan.new.to _ (at.t * (table.q * table.w)) (table.q * table.w) _
+    written_next _ at.to c.fan.new.to _ (at.t * (table.q * c.args.w)) (table.q * c.args.w) _
     (omega (arith, bound, at.auto.to))
-    (c.fan.auto.to ∙ length-part (at.t * (table.q * table.w)) _ (table.q * table.w) at.to (omega arith)
+    (c.fan.auto.to ∙ length-part (at.t * (table.q * c.args.w)) _ (table.q * c.args.w) at.to (omega arith)
     (omega (arith, bound, at.auto.to)))
     (omega arith) at.invariant c.fan.ensures
 
@@ -57,6 +57,6 @@ returns c =
     let at = c.loop-t in
     let table = c.args.self.now in
     let done : at.t ≡ table.q * table.half = omega (arith, at.auto.t-end, c.loop-t-test.false) in
-    let all : at.t * (table.q * table.w) ≡ table.q * table.half * table.q * table.w =
-    ap (λ (t : ℕ). t * (table.q * table.w)) done ∙ omega arith in
-    written_all _ at.to _ (at.auto.to ∙ c.requires) (rw all at at.invariant)
+    let all : at.t * (table.q * c.args.w) ≡ table.q * table.half * table.q * c.args.w =
+    ap (λ (t : ℕ). t * (table.q * c.args.w)) done ∙ omega arith in
+    written_all _ at.to _ (at.auto.to ∙ c.requires.1) (rw all at at.invariant)

@@ -7,4 +7,4 @@ use Rattle.engine.proofs.tables.Table.pass.Given as goal
 abbrev pub invariant-loop-t : goal.invariant-loop-t
 invariant-loop-t l =
     let table = l.self in
-    Written (climbed_at table.q table.half table.w table.numbers.now) l.to (l.t * l.step)
+    Written (climbed_at table.q table.half l.w table.numbers.now) l.to (l.t * l.step)
