@@ -34,10 +34,6 @@ led : (g : Over) (c : After-search-led g) → let shape = g.R.Received.shape c.a
     c.search-led.result ≡ searched shape.h shape.m (table_of shape.h shape.m (g.R.Received.gain c.args.received.now))
 led g c = c.search-led.ensures ∙ rw (c.shape-shape.ensures, c.fill.ensures.filled)
 
-pub value-requires : goal.value-requires
-value-requires g c =
-    g.met.R.Received.tells _ _ c.fill.ensures.seen (led g (goal.at.value-requires g c).After-search-led)
-
 pub returns : goal.returns
 returns g c =
     let found = g.met.R.Received.finds _ _ c.fill.ensures.seen (led g (goal.at.returns g c).After-search-led) in

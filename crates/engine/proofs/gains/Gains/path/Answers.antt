@@ -3,7 +3,7 @@
 -- Assumes nothing.
 use Prim.Native.Nat.{ℕ, ◌+◌, ◌*◌, ◌^◌, ◌≤◌}
 use native.Mathlib.Omega.{arith}
-use mathlib.Core.Path.{◌≡◌, sym, ◌∙◌, ap}
+use mathlib.Core.Path.{◌≡◌, ◌∙◌, ap}
 use mathlib.Core.List.{◌++◌}
 use lib.ListN.{length, take, drop}
 use lib.Seq.{length-take-le}
@@ -70,12 +70,6 @@ invariant_of-turned c = record {
 -- the table has as many numbers as there are gains
 room : (c : After-own_word) → length c.args.self.now.numbers.now ≤ length c.args.areas.now.x
 room c = omega (arith, path_room c.args.self.now)
-
-pub write-requires : goal.write-requires
-write-requires c =
-    let after = (goal.at.write-requires c).After-own_word in
-    let fitting = path_word_fits c.args.self.now c.args.number c.requires _ (word after) in
-    length-take-le _ _ (room after) ∙ fitting.long ∙ ap (λ (k : ℕ). k * length c.own_word.new.word) (sym c.phases-q.ensures)
 
 -- the first table stands at the front of x
 first : (c : After-write) → let xs = c.args.self.now.numbers.now in

@@ -31,15 +31,6 @@ slice_bounds-fan-end c =
     let bound = room (goal.at.slice_bounds-fan-end c).In-loop-t in
     omega (arith, bound, c.loop-t.auto.to)
 
-pub fan-requires : goal.fan-requires
-fan-requires c =
-    let table = c.args.self.now in
-    let bound = room (goal.at.fan-requires c).In-loop-t in (
-      c.loop-t-test.true,
-      length-part (c.loop-t.t * (table.q * c.args.w)) _ (table.q * c.args.w) c.loop-t.to (omega arith)
-          (omega (arith, bound, c.loop-t.auto.to)),
-    )
-
 pub loop-t-preserved : goal.loop-t-preserved
 loop-t-preserved c =
     let at = c.loop-t in
