@@ -1,7 +1,8 @@
 -- From a search to an answer: a table of small gains is accepted, its search gives the best total, and that is the
--- greatest correlation, or the least distance. In order: the gains of a table are small, and so are its totals; it is
--- accepted; what its search gives; the message that is answered; the answer of soft decoding; the answer of hard
--- decoding.
+-- greatest correlation, or the least distance. These are laws of what is received (src/received.rt); they stand here
+-- since an impl cites nothing of proofs/. In order: what an answer is; the gains of a table are small, and so are its
+-- totals; it is accepted; what its search gives; every soft value is a sixteen-bit number; the answer of soft decoding;
+-- the answer of hard decoding.
 -- Not here: totals, correlations and distances (totals, Answers).  Assumes nothing.
 use Prim.Native.Nat.{ℕ, ◌+◌, ◌-◌, ◌*◌, ◌/◌, ◌%◌, ◌≤◌, ◌<◌, zero-le}
 use native.Mathlib.Nat.{mul-le-mul, mul_comm, le_refl, mod-lt, div-lt_iff_lt-mul, div-add-mod'}
@@ -119,7 +120,9 @@ module _ (h m : ℕ) (ok : in_shape h m ≡ true) (two : h ≤ 2) (st : Standing
       (read : IsSeen (carriers m) (phases h) (small_at h ys))
       (q : st ≡ searched h m (table_of h m (soft_gain h ys))) where
     heard : Leads h m (2 * raise_by) (soft_gain h ys) st
-    heard = search_leads h m (2 * raise_by) (soft_gain h ys) (soft_gain_le h ys (small ys long read)) ok two (lit≤ tt) st q
+    heard =
+        let low = soft_gain_le h ys (small ys long read) in
+        search_leads h m (2 * raise_by) (soft_gain h ys) low ok two (lit≤ tt) st q
 
     pub soft_best_le : st.best ≤ carriers greatest_m * (2 * raise_by)
     soft_best_le =

@@ -1,7 +1,8 @@
 // Soft and hard decoding for two and four phases: document 01 "What the receiver hears".
 // Each call turns what it received into a table of gains, natural numbers that are greater where a symbol fits better
-// (totals, specs/Gains.antt), and has the engine find the label of greatest total. Equals go to the earliest label. The
-// answers, and what the contracts cite of them, stand in the crate answers.
+// (totals, specs/Gains.antt), and has the engine find the label of greatest total. Equals go to the earliest label.
+// The search is one for both; what differs is what is received (received.rt): soft values, or symbols. The answers, and
+// what the contracts cite of them, stand in the crate answers.
 #![tactic(auto)]
 
 mod received;

@@ -1,6 +1,6 @@
 -- The stages one after the other: specs/SearchTables.antt, Climbing. In order: powers; the numbers of the next table
--- stay small; what the stages answer; no stage is left but the last, or one at least; what the last stage may be given, and what it answers; what one stage may be given, what the stages after
--- it may be given, and what they answer.
+-- stay small; what the stages answer; no stage is left but the last, or one at least; what the last stage may be given,
+-- and what it answers; what one stage may be given, what the stages after it may be given, and what they answer.
 -- Not here: where the runs of one table lie (RunLaws).  Assumes nothing.
 use Prim.Native.Nat.{ℕ, suc, ◌+◌, ◌-◌, ◌*◌, ◌/◌, ◌^◌, ◌≤◌, ◌<◌}
 use native.Mathlib.Nat.{mul-le-mul, mul-one, pow-zero, pow-succ', pow-le-pow_left, le_refl, one-le-pow}

@@ -1,7 +1,7 @@
--- The labels of the paths of a table of gains that can be searched (src/gains.rt, Gains). In order: all labels are those
--- of the paths in use; the areas have room for the tables of each shape; the first label of a path is one, and so are
--- the others; powers to m, as the stages count them; the path's own word can be put into the gains; the first table, of
--- which the stages may begin; what they answer, in terms of totals.
+-- The labels of the paths of a table of gains that can be searched (src/gains.rt, Gains). In order: all labels are
+-- those of the paths in use; the areas have room for the tables of each shape; powers to m, as the stages count them;
+-- the first label of a path is one, and so are the others; the path's own word can be put into the gains; the first
+-- table, of which the stages may begin; what they answer, in terms of totals.
 -- Not here: the stages (Climbing).  Assumes nothing.
 use Prim.Native.Nat.{ℕ, suc, ◌+◌, ◌-◌, ◌*◌, ◌/◌, ◌^◌, ◌≤◌, ◌<◌}
 use native.Mathlib.Nat.{one-mul, mul-le-mul, le_refl, pow-suc, pow-succ', pow-le-pow_left, pow-le-pow_right, one-le-pow}

@@ -1,5 +1,5 @@
--- The runs of a table: specs/SearchTables.antt. In order: no number of a run is too great to be added to another; a gain
--- as a number of the first table; a sum as a number of the next table.
+-- The runs of a table: specs/SearchTables.antt. In order: no number of a run is too great to be added to another; a
+-- gain as a number of the first table; a sum as a number of the next table.
 -- Not here: the labels of a table (Counting), the stages one after the other (Climbing).  Assumes nothing.
 use Prim.Native.Nat.{ℕ, ◌+◌, ◌*◌, ◌%◌, ◌≤◌, ◌<◌}
 use native.Mathlib.Decide.{dec_lt}

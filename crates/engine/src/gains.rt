@@ -13,7 +13,6 @@ ghost use Rattle.engine.specs.SearchTables.{Climbing, most_total, table_in};
 use crate::AREA;
 use crate::tables::Table;
 use crate::turning::Turned;
-use kinds::MessageNumber;
 use shape::{PLACES, Shape};
 use standing::Standing;
 
@@ -57,8 +56,8 @@ impl Gains<'_> {
     fn path(&self, number: u64, areas: &mut Areas, before: Standing) -> Standing
         requires { number < paths_in_use self.now.shape.m }
         ensures { result ≡ (let size = phases self.now.shape.h ^ (self.now.shape.m + 1) in
-            lead_from (number * size) (λ j. total_of self.now.shape.h self.now.shape.m self.now.numbers.now (number * size + j))
-            size before) }
+            lead_from (number * size)
+            (λ j. total_of self.now.shape.h self.now.shape.m self.now.numbers.now (number * size + j)) size before) }
     {
         let Shape { h, m, .. } = self.shape;
         let q = self.shape.phases() as usize;
@@ -82,7 +81,7 @@ fn own_word(shape: Shape, label: u64, word: &mut [u8])
     requires { (label < labels shape.h shape.m) × (length word.old ≡ carriers shape.m) }
     ensures { word.new ≡ list_below (carriers shape.m) (word_at shape.h shape.m label) }
 {
-    let message: MessageNumber = shape::message_of(shape.h, shape.m, label);
+    let message = shape::message_of(shape.h, shape.m, label);
     encoder::encode(shape.h, shape.m, message, word).unwrap();
 }
 

@@ -45,7 +45,8 @@ impl Table<'_> {
     fn fan(&self, t: usize, to: &mut [u32])
         requires { (t < self.now.q * self.now.half) × (length to.old ≡ self.now.q * self.now.w) }
         ensures { (e : ℕ) → e < self.now.q * self.now.w
-            → get_or to.new e 0 ≡ climbed_at self.now.q self.now.half self.now.w self.now.numbers.now (t * (self.now.q * self.now.w) + e) }
+            → get_or to.new e 0
+            ≡ climbed_at self.now.q self.now.half self.now.w self.now.numbers.now (t * (self.now.q * self.now.w) + e) }
     {
         for c in 0..self.q {
             self.pair(t, c).write(&mut to[c * self.w..(c + 1) * self.w]);

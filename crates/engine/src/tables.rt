@@ -38,7 +38,8 @@ impl<'a> Table<'a> {
     pub(super) fn pair(&self, t: usize, c: usize) -> Pair<'a>
         requires { (t < self.now.q * self.now.half) × (c < self.now.q) }
         ensures { (length result.x.now ≡ self.now.w) × ((i : ℕ) → i < self.now.w
-            → get_or result.x.now i 0 + get_or result.y.now i 0 ≡ pair_at self.now.q self.now.half self.now.w self.now.numbers.now t c i) }
+            → get_or result.x.now i 0 + get_or result.y.now i 0
+            ≡ pair_at self.now.q self.now.half self.now.w self.now.numbers.now t c i) }
     {
         let further = wrap(self.q * self.half, t + c * self.half);
         Pair {
@@ -60,15 +61,15 @@ impl Pair<'_> {
     // All sums.
     pub(super) fn write(&self, to: &mut [u32])
         requires { length to.old ≡ length self.now.x.now }
-        ensures { (i : ℕ) → i < length self.now.x.now → get_or to.new i 0 ≡ get_or self.now.x.now i 0 + get_or self.now.y.now i 0 }
+        ensures { (i : ℕ) → i < length self.now.x.now
+            → get_or to.new i 0 ≡ get_or self.now.x.now i 0 + get_or self.now.y.now i 0 }
     {
         for (i, sum) in to.iter_mut().enumerate() {
             *sum = self.sum(i);
         }
     }
 
-    // A number that no sum is above: the greatest of them, or 0. All of them are looked at, so that the compiler can look
-    // at several at once.
+    // The greatest sum, or 0. All of them are looked at, so that the compiler can look at several at once.
     pub(super) fn greatest(&self) -> u32
         ensures { (i : ℕ) → i < length self.now.x.now
             → get_or self.now.x.now i 0 + get_or self.now.y.now i 0 ≤ result }

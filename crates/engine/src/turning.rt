@@ -30,8 +30,8 @@ impl Turned<'_> {
     // The run of symbol s: entry i is the gain of symbol s + word[i], modulo q, at place i.
     fn turn(&self, s: usize, to: &mut [u32])
         requires { (s < self.now.q) × (length to.old ≡ length self.now.word.now) }
-        ensures { (i : ℕ) → i < length self.now.word.now → get_or to.new i 0
-            ≡ gains_with_at self.now.q (length self.now.word.now) self.now.word.now self.now.gains.now (s * length self.now.word.now + i) }
+        ensures { let n = length self.now.word.now in (i : ℕ) → i < n
+            → get_or to.new i 0 ≡ gains_with_at self.now.q n self.now.word.now self.now.gains.now (s * n + i) }
     {
         let n = self.word.len();
         for (i, gain) in to.iter_mut().enumerate() {

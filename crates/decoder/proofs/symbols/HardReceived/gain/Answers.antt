@@ -27,8 +27,8 @@ difference_lt : (c : After-abs_diff) → c.minus-difference.result < phases c.ar
 unfolding minus
 difference_lt c =
     let q : ℕ = phases c.args.self.now.shape.h in
-    rw (difference c)
-    (mod-lt (get_or c.args.self.now.word.now c.args.place 0 + (q - c.args.symbol)) {m = q} (omega (arith, c.requires.1)))
+    let a : ℕ = get_or c.args.self.now.word.now c.args.place 0 in
+    rw (difference c) (mod-lt (a + (q - c.args.symbol)) {m = q} (omega (arith, c.requires.1)))
 
 pub overflow_cast-result : goal.overflow_cast-result
 overflow_cast-result c =

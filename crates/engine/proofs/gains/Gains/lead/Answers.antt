@@ -32,6 +32,7 @@ returns c =
     let at = c.loop-number in
     let shape = c.args.self.now.shape in
     let size : ℕ = phases shape.h ^ (shape.m + 1) in
-    let done : at.number ≡ c.paths_in_use-number-end.result = omega (arith, at.auto.number-end, c.loop-number-test.false) in
+    let done : at.number ≡ c.paths_in_use-number-end.result =
+    omega (arith, at.auto.number-end, c.loop-number-test.false) in
     lead_from_end 0 _ (at.number * size) (labels shape.h shape.m) nobody at.st at.invariant
     (ap (λ (k : ℕ). k * size) (done ∙ c.paths_in_use-number-end.ensures) ∙ labels_paths shape.h shape.m)

@@ -79,7 +79,8 @@ first : (c : After-write) → let xs = c.args.self.now.numbers.now in
     × (length zs ≡ area)
 first c =
     let before = room (goal.at.After-write c).After-own_word in
-    let front = front_written _ c.args.areas.now.x c.write.new.to before (c.write.auto.to ∙ length-take-le _ _ before) in (
+    let front = front_written _ c.args.areas.now.x c.write.new.to before
+    (c.write.auto.to ∙ length-take-le _ _ before) in (
       front.0 ∙ c.write.ensures
           ∙ ap (λ (k : ℕ). gains_with k (length c.own_word.new.word) c.own_word.new.word c.args.self.now.numbers.now)
           c.phases-q.ensures,

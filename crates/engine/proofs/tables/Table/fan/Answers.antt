@@ -13,7 +13,8 @@ loop-c-preserved c =
     let room : at.c * table.w + table.w ≤ length at.to =
     omega (arith, times_within at.c table.q table.w c.loop-c-test.true, c.requires.1, at.auto.to) in
     written_next _ at.to c.write.new.to _ (at.c * table.w) table.w _
-    (omega (arith, room)) (c.write.auto.to ∙ length-part (at.c * table.w) _ table.w at.to (omega arith) (omega (arith, room)))
+    (omega (arith, room))
+    (c.write.auto.to ∙ length-part (at.c * table.w) _ table.w at.to (omega arith) (omega (arith, room)))
     (omega arith) at.invariant
     (λ i l. c.write.ensures i (rw c.pair.ensures.0 l) ∙ c.pair.ensures.1 i l
     ∙ climbed_at_sum table.q table.half table.w table.numbers.now c.args.t at.c i c.loop-c-test.true l)
