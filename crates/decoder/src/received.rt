@@ -18,6 +18,7 @@ use standing::Standing;
 // The greatest table of gains: a run of places for each symbol of the most phases that are decoded.
 const GAINS: usize = PLACES << GREATEST_DECODED;
 
+// Soft values, or symbols, of a shape that is decoded, and the kind of value that an answer to them has.
 pub(super) trait Received {
     type Value;
 
@@ -50,6 +51,8 @@ pub(super) trait Received {
         requires { can_tell self.now led }
         ensures { result ≡ told self.now led };
 
+    // The shape has two or four phases. Once all gains are asked for, the standing of the search through them may be
+    // told, and the answer that it tells is right.
     ghost few: { (r : Self) → (shape r).h ≤ greatest_decoded };
 
     ghost tells: { (r : Self) (led : Standing) → IsSeen (carriers (shape r).m) (phases (shape r).h) (seen r)
