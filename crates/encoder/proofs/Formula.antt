@@ -1,11 +1,11 @@
--- What the encoder combines at a place is the formula of 01: generator rows, path steps and coefficients, modulo 2^h.
--- In order: links as a sum; the first of a list; each part of the symbol; the symbol; what the arrays hold; the two
--- lifts.  Assumes nothing.
+-- What a form adds up at a place is the formula of 01: generator rows, path steps and coefficients, modulo 2^h.
+-- In order: links as a sum; the steps as code holds them, and their digits; a coefficient is small; a form of a label,
+-- each part of its symbols, its symbols; the two lifts.  Assumes nothing.
 use Prim.Native.Nat.{ℕ, zero, suc, ◌+◌, ◌-◌, ◌*◌, ◌%◌, ◌≤◌, ◌<◌}
 use native.Mathlib.Nat.{lt_of_lt_of_le, suc-ne-zero, suc_inj, one-mul}
 use native.Mathlib.Numerals.{add-one}
 use native.Mathlib.Omega.{arith}
-use mathlib.Core.Path.{◌≡◌, refl, sym, ◌∙◌, ap, ap₂, subst}
+use mathlib.Core.Path.{◌≡◌, refl, sym, ◌∙◌, ap, ap₂}
 use mathlib.Core.List.{List, [], ◌∷◌}
 use lib.ListN.{length, get_or, replicate}
 use Rattle.range.specs.Below.{sum_below, list_below}
@@ -17,15 +17,18 @@ use Rattle.rules.specs.Place.{digit, generator_at}
 use Rattle.rules.specs.Path.{IsPath, path_at, head_of}
 use Rattle.rules.specs.Label.{labels, label_path, label_of, row_coefficient}
 use Rattle.rules.specs.Word.{links, word_at, partner_at, word_of, partner_of}
-use Rattle.rules.proofs.Range.{InRange, range_in_m, phases_by_two, phases_most, carriers_most}
+use Rattle.rules.proofs.Range.{InRange, range_in_m, carriers_most}
 use Rattle.paths.proofs.Members.{is_path_in}
 use Rattle.words.proofs.Labels.{coefficient_lt, constant_lt}
 use Rattle.words.proofs.Forms.{form_at_rows, partner_at_form}
 use Rattle.words.proofs.Used.{label_path_is_path}
 use Rattle.words.proofs.Partners.{head_of_at}
 use Rattle.steps.specs.PathSteps.{path_row}
-use Rattle.encoder.specs.Arrays.{generator_rows, cell, linear_of, links_of, symbol_of, lifted_at, Cells, Small, Walk}
-use Rattle.encoder.proofs.Matrix.{generator_at_digit, generator_rows_at, generator_rows_cells}
+use Rattle.encoder.specs.declared.Form.{Form}
+use Rattle.encoder.specs.Arrays.{generator_rows, cell, lifted_at}
+use Rattle.encoder.specs.Forms.{step_at, linear_of, links_of, symbol_of}
+use Rattle.encoder.proofs.Bounds.{range_of}
+use Rattle.encoder.proofs.Matrix.{generator_at_digit, generator_rows_at}
 
 -- the links of a path as a sum over its steps
 links_cons : (x : ℕ → ℕ) (a : ℕ) (p : List ℕ) →
@@ -51,15 +54,16 @@ module _ (h m l : ℕ) (range : InRange h m) (used : l < labels h m) where
   path_is = label_path_is_path h m l (range_in_m h m range) used
 
   -- the steps as code holds them
-  step_at : (k : ℕ) → k < m → get_or (path_row m (label_path h m l)) k 0 ≡ get_or path k 0
+  row_step : (k : ℕ) → k < m → get_or (path_row m (label_path h m l)) k 0 ≡ get_or path k 0
   unfolding path_row
-  step_at k h₁ = filled_at m (λ j. get_or path j 0) (replicate greatest_m 0) k 0 h₁
+  row_step k h₁ = filled_at m (λ j. get_or path j 0) (replicate greatest_m 0) k 0 h₁
 
   step_in : (k : ℕ) → k < m → (1 ≤ get_or path k 0) × (get_or path k 0 ≤ m)
   step_in k h₁ = is_path_in m path path_is k (omega (arith, path_is.long))
 
-  pub walk : Walk m (path_row m (label_path h m l))
-  walk = record { least = range.m_least; steps = λ k h₁. omega (arith, step_at k h₁, (step_in k h₁).1) }
+  -- each names a row
+  pub row_step_le : (k : ℕ) → k < m → get_or (path_row m (label_path h m l)) k 0 ≤ m
+  row_step_le k h₁ = omega (arith, row_step k h₁, (step_in k h₁).1)
 
   module _ (i : ℕ) (inside : i < carriers m) where
     in_row : i < carriers greatest_m
@@ -69,68 +73,70 @@ module _ (h m l : ℕ) (range : InRange h m) (used : l < labels h m) where
     step_digit : (k : ℕ) → k < m →
         cell (generator_rows m) (get_or (path_row m (label_path h m l)) k 0) i ≡ digit m i (get_or path k 0)
     step_digit k h₁ =
-        ap (λ (r : ℕ). cell (generator_rows m) r i) (step_at k h₁)
+        ap (λ (r : ℕ). cell (generator_rows m) r i) (row_step k h₁)
         ∙ generator_rows_at m (get_or path k 0) i (omega (arith, (step_in k h₁).1, range.m_most)) in_row
         ∙ generator_at_digit m (get_or path k 0) i (step_in k h₁).0
 
-    links_is : links_of (generator_rows m) (path_row m (label_path h m l)) m i ≡ links (digit m i) path
-    unfolding links_of
-    links_is =
-        sum_below_cong (m - 1) _ (λ k. digit m i (get_or path k 0) * digit m i (get_or path (k + 1) 0))
-        (λ k h₁. ap₂ (λ (x y : ℕ). x * y) (step_digit k (omega arith)) (step_digit (k + 1) (omega arith)))
-        ∙ sym (links_sum (digit m i) (m - 1) path (omega (arith, path_is.long, range.m_least)))
-
-    first_is : cell (generator_rows m) (get_or (path_row m (label_path h m l)) 0 0) i ≡ digit m i (head_of path)
-    first_is = step_digit 0 (omega (arith, range.m_least)) ∙ ap (digit m i) (sym (head_of_at path))
-
-    module _ (c : List ℕ) (rows : (r : ℕ) → r ≤ m → get_or c r 0 ≡ row_coefficient h m l r) where
-      linear_is : linear_of (generator_rows m) c m i
-          ≡ sum_below (m + 1) (λ r. row_coefficient h m l r * generator_at m r i)
-      unfolding linear_of
-      linear_is =
-          sum_below_cong (m + 1) _ (λ r. row_coefficient h m l r * generator_at m r i)
-          (λ r h₁. ap₂ (λ (x y : ℕ). x * y) (rows r (omega arith))
-          (generator_rows_at m r i (omega (arith, range.m_most)) in_row))
-
-      pub symbol_is : (s : ℕ) →
-          symbol_of (generator_rows m) (path_row m (label_path h m l)) c m (phases h) s i ≡ lifted_at h m l s i
-      unfolding symbol_of lifted_at
-      symbol_is s = rw (form_at_rows h m l i, phases_by_two h range.h_least, links_is, linear_is, first_is)
-
-row_coefficient_lt : (h m l r : ℕ) → row_coefficient h m l r < phases h
+pub row_coefficient_lt : (h m l r : ℕ) → row_coefficient h m l r < phases h
 unfolding row_coefficient
 row_coefficient_lt h m l zero = constant_lt h l
 row_coefficient_lt h m l (suc r) = coefficient_lt h m l (suc r)
 
--- what the arrays of the encoder hold, and what follows
-pub record Held (h m l lift : ℕ) (g : List (List ℕ)) (p c : List ℕ) (q s : ℕ) : Type 0 where
-  pub range : InRange h m
-  pub used : l < labels h m
-  pub rows : g ≡ generator_rows m
-  pub steps : p ≡ path_row m (label_path h m l)
-  pub coefficients : (r : ℕ) → r ≤ m → get_or c r 0 ≡ row_coefficient h m l r
-  pub base : q ≡ phases h
-  pub lifted : s ≡ lift * half_turn h
+-- a form of label l, and of so many half turns
+pub record IsFormOf (l lift : ℕ) (f : Form) : Type 0 where
+  pub used : l < labels f.shape.h f.shape.m
+  pub generated : f.generator ≡ generator_rows f.shape.m
+  pub walked : f.steps ≡ path_row f.shape.m (label_path f.shape.h f.shape.m l)
+  pub split : (r : ℕ) → r ≤ f.shape.m → get_or f.coefficients r 0 ≡ row_coefficient f.shape.h f.shape.m l r
+  pub turned : f.lift ≡ lift * half_turn f.shape.h
 
-module _ (h m l lift : ℕ) (g : List (List ℕ)) (p c : List ℕ) (q s : ℕ) (held : Held h m l lift g p c q s) where
-  pub held_cells : Cells m g
-  held_cells = subst (Cells m) (sym held.rows) (generator_rows_cells m held.range.m_most)
+module _ (l lift : ℕ) (f : Form) (of : IsFormOf l lift f) where
+  abbrev h : ℕ
+  h = f.shape.h
 
-  pub held_small : Small m c
-  held_small = record {
-    small = λ r h₁. omega
-        (arith, held.coefficients r h₁, row_coefficient_lt h m l r, phases_most h m held.range);
-  }
+  abbrev m : ℕ
+  m = f.shape.m
 
-  pub held_walk : Walk m p
-  held_walk = subst (Walk m) (sym held.steps) (walk h m l held.range held.used)
+  abbrev range : InRange h m
+  range = range_of f
 
-  pub held_symbols : (n : ℕ) → n ≡ carriers m →
-      list_below n (symbol_of g p c m q s) ≡ list_below (carriers m) (lifted_at h m l (lift * half_turn h))
-  held_symbols n e =
-      rw (e, held.rows, held.steps, held.base, held.lifted)
-      (list_below_cong (carriers m) _ _
-      (λ i h₁. symbol_is h m l held.range held.used i h₁ c held.coefficients (lift * half_turn h)))
+  abbrev own : List ℕ
+  own = path h m l range of.used
+
+  module _ (i : ℕ) (inside : i < carriers m) where
+    step_is : (k : ℕ) → k < m → step_at f i k ≡ digit m i (get_or own k 0)
+    step_is k h₁ =
+        ap₂ (λ (g : List (List ℕ)) (p : List ℕ). cell g (get_or p k 0) i) of.generated of.walked
+        ∙ step_digit h m l range of.used i inside k h₁
+
+    links_is : links_of f i ≡ links (digit m i) own
+    unfolding links_of
+    links_is =
+        sum_below_cong (m - 1) _ (λ k. digit m i (get_or own k 0) * digit m i (get_or own (k + 1) 0))
+        (λ k h₁. ap₂ (λ (x y : ℕ). x * y) (step_is k (omega arith)) (step_is (k + 1) (omega arith)))
+        ∙ sym (links_sum (digit m i) (m - 1) own (omega (arith, (path_is h m l range of.used).long, range.m_least)))
+
+    linear_is : linear_of f i ≡ sum_below (m + 1) (λ r. row_coefficient h m l r * generator_at m r i)
+    unfolding linear_of
+    linear_is =
+        sum_below_cong (m + 1) _ (λ r. row_coefficient h m l r * generator_at m r i)
+        (λ r h₁. ap₂ (λ (x y : ℕ). x * y) (of.split r (omega arith))
+        (ap (λ (g : List (List ℕ)). cell g r i) of.generated
+        ∙ generator_rows_at m r i (omega (arith, range.m_most)) (in_row h m l range of.used i inside)))
+
+    first_is : step_at f i 0 ≡ digit m i (head_of own)
+    first_is = step_is 0 (omega (arith, range.m_least)) ∙ ap (digit m i) (sym (head_of_at own))
+
+    symbol_is : symbol_of f i ≡ lifted_at h m l f.lift i
+    unfolding symbol_of lifted_at
+    symbol_is = rw (form_at_rows h m l i, links_is, linear_is, first_is)
+
+  -- so its symbols are those of the lifted word
+  pub symbols_are : (n : ℕ) → n ≡ carriers m →
+      list_below n (symbol_of f) ≡ list_below (carriers m) (lifted_at h m l (lift * half_turn h))
+  symbols_are n e =
+      rw e (list_below_cong (carriers m) (symbol_of f) (lifted_at h m l f.lift) symbol_is)
+      ∙ ap (λ (s : ℕ). list_below (carriers m) (lifted_at h m l s)) of.turned
 
 -- the two lifts: the word and its partner
 lifted_at_zero : (h m l i : ℕ) → lifted_at h m l (0 * half_turn h) i ≡ word_at h m l i

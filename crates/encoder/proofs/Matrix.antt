@@ -12,7 +12,7 @@ use Rattle.range.proofs.Lists.{list_below_at, list_below_cong}
 use Rattle.rules.specs.Shape.{greatest_m, carriers}
 use Rattle.rules.specs.Place.{digit, generator_at, generator}
 use Rattle.places.proofs.Digits.{digit_lt}
-use Rattle.encoder.specs.Arrays.{generator_rows, cell, Cells}
+use Rattle.encoder.specs.Arrays.{generator_rows, cell}
 
 pub generator_at_digit : (m r i : ℕ) → 1 ≤ r → generator_at m r i ≡ digit m i r
 unfolding generator_at
@@ -47,8 +47,5 @@ generator_rows_is m r i most h l =
     (list_below_at (suc m) (λ k. list_below (carriers m) (generator_at m k)) r [] (suc-le-suc h))
     ∙ list_below_at (carriers m) (generator_at m r) i 0 l)
 
-pub generator_rows_cells : (m : ℕ) → m ≤ greatest_m → Cells m (generator_rows m)
-generator_rows_cells m most = record {
-  most = most;
-  cells = λ r i h l. subst (λ (x : ℕ). x ≤ 1) (sym (generator_rows_at m r i (omega arith) l)) (generator_at_le m r i);
-}
+pub generator_rows_le : (m r i : ℕ) → r ≤ greatest_m → i < carriers greatest_m → cell (generator_rows m) r i ≤ 1
+generator_rows_le m r i h l = subst (λ (x : ℕ). x ≤ 1) (sym (generator_rows_at m r i h l)) (generator_at_le m r i)

@@ -1,18 +1,13 @@
--- What the steps of the encoder compute, said of the arrays that they hold. Not 01's rules: proofs/Formula.antt ties
--- these to them.
+-- What the arrays of the encoder hold, and the lifted word. Not 01's rules: proofs/Formula.antt ties these to them.
 -- Defines:  generator_rows m     the generator as code holds it: a row for each coefficient of the greatest m, all
 --                                places
 --           cell g r i           row r of the array g at place i
---           linear_of, links_of  the sum over the rows, and over the links, at place i
---           symbol_of            both, with s times the row of the first step, modulo q
 --           lifted_at h m l s i  the formula plus s x_p(1), modulo 2^h: the word for s = 0, the partner for s = 2^(h-1)
 --           Split h m l t        the parts t of label l
---           Cells m g, Small m c, Walk m p  bounds on the arrays, so that no sum wraps and no index lies outside
---           Bounded m q s g p c  all three, and bounds on q and s
--- Assumes nothing: these are definitions.
-use Rattle.std.specs.Prelude.{ℕ, suc, ◌+◌, ◌-◌, ◌*◌, ◌/◌, ◌%◌, ◌≤◌, ◌<◌, ◌≡◌, List, [], get_or}
-use Rattle.range.specs.Below.{sum_below, list_below}
-use Rattle.rules.specs.Shape.{greatest_h, greatest_m, carriers, phases, half_turn}
+-- Not here: what is summed from them (Forms).  Assumes nothing: these are definitions.
+use Rattle.std.specs.Prelude.{ℕ, suc, ◌+◌, ◌*◌, ◌%◌, ◌≤◌, ◌≡◌, List, [], get_or}
+use Rattle.range.specs.Below.{list_below}
+use Rattle.rules.specs.Shape.{greatest_m, carriers, phases}
 use Rattle.rules.specs.Place.{digit, generator_at}
 use Rattle.rules.specs.Path.{head_of, path_at}
 use Rattle.rules.specs.Label.{label_path, row_coefficient}
@@ -25,40 +20,9 @@ generator_rows m = list_below (suc greatest_m) (λ r. list_below (carriers great
 abbrev pub cell : List (List ℕ) → ℕ → ℕ → ℕ
 cell g r i = get_or (get_or g r []) i 0
 
-unfoldable pub linear_of : List (List ℕ) → List ℕ → ℕ → ℕ → ℕ
-linear_of g c m i = sum_below (m + 1) (λ r. get_or c r 0 * cell g r i)
-
-unfoldable pub links_of : List (List ℕ) → List ℕ → ℕ → ℕ → ℕ
-links_of g p m i = sum_below (m - 1) (λ k. cell g (get_or p k 0) i * cell g (get_or p (k + 1) 0) i)
-
-unfoldable pub symbol_of : List (List ℕ) → List ℕ → List ℕ → ℕ → ℕ → ℕ → ℕ → ℕ
-symbol_of g p c m q s i = (q / 2 * links_of g p m i + linear_of g c m i + s * cell g (get_or p 0 0) i) % q
-
 unfoldable pub lifted_at : ℕ → ℕ → ℕ → ℕ → ℕ → ℕ
 lifted_at h m l s i = (form_at h m l i + s * digit m i (head_of (path_at m (label_path h m l)))) % phases h
 
 pub record Split (h m l : ℕ) (t : Parts) : Type 0 where
   pub path : t.path.0 ≡ label_path h m l
-  pub rows : (r : ℕ) → r ≤ m → get_or t.c r 0 ≡ row_coefficient h m l r
-
--- the rows hold digits
-pub record Cells (m : ℕ) (g : List (List ℕ)) : Type 0 where
-  pub most : m ≤ greatest_m
-  pub cells : (r i : ℕ) → r ≤ m → i < carriers greatest_m → cell g r i ≤ 1
-
--- the coefficients are below the most phases
-pub record Small (m : ℕ) (c : List ℕ) : Type 0 where
-  pub small : (r : ℕ) → r ≤ m → get_or c r 0 < phases greatest_h
-
--- each step names a row
-pub record Walk (m : ℕ) (p : List ℕ) : Type 0 where
-  pub least : 2 ≤ m
-  pub steps : (k : ℕ) → k < m → get_or p k 0 ≤ m
-
-pub record Bounded (m q s : ℕ) (g : List (List ℕ)) (p c : List ℕ) : Type 0 where
-  pub cells : Cells m g
-  pub small : Small m c
-  pub walk : Walk m p
-  pub least : 2 ≤ q
-  pub most : q ≤ phases greatest_h
-  pub lift : s ≤ half_turn greatest_h
+  pub rows : (r : ℕ) → r ≤ m → get_or t.coefficients r 0 ≡ row_coefficient h m l r

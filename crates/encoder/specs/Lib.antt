@@ -1,2 +1,3 @@
 pub mod Arrays
+pub mod Forms
 pub mod Sent

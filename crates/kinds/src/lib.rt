@@ -67,7 +67,8 @@ impl Refusal {
         ensures { option_map (λ p. p.0) result ≡ slice_get (refusal_carries self) 0 }
     {
         match self {
-            Refusal::Symbol(place) | Refusal::SymbolIn(_, place) | Refusal::Value(place) => Some(place),
+            Refusal::Symbol(place) | Refusal::SymbolIn(_, place) => Some(place),
+            Refusal::Value(place) => Some(place),
             _ => None,
         }
     }

@@ -1,8 +1,8 @@
 -- What the symbols show of a label. In order: a coefficient's bound; what is shown as the number of the label's parts;
--- one coefficient more; its bounds; the next path; a word shows its own label; the test of a message; the message
--- that has a word, and where no message has it.  Assumes nothing.
+-- one coefficient more; its bounds; the label that is shown with a path; a word shows its own label; the test of a
+-- message; the message that has a word, and where no message has it.  Assumes nothing.
 use Prim.Native.Nat.{ℕ, zero, suc, ◌+◌, ◌-◌, ◌*◌, ◌^◌, ◌≤◌, ◌<◌}
-use native.Mathlib.Nat.{zero-mul, add-mul, one-mul, lt_irrefl, pow-zero, pow-suc, le_refl, lt_trans}
+use native.Mathlib.Nat.{lt_irrefl, pow-zero, pow-suc, le_refl, lt_trans, mul-le-mul}
 use native.Mathlib.Nat.{lt_of_lt_of_le, mul-le-mul_left}
 use native.Mathlib.Numerals.{add-one}
 use native.Mathlib.Omega.{arith}
@@ -20,20 +20,19 @@ use borrow.Author.Tests.{eq-eqb, eqb-true}
 use Rattle.range.specs.Below.{all_below}
 use Rattle.range.proofs.Tests.{false_of_not_true, all_below_of, all_below_at, first_below_some, first_below_none}
 use Rattle.range.proofs.Tests.{first_below_at, first_below_nowhere}
-use Rattle.rules.specs.Shape.{phases, carriers, paths_in_use, messages, most_coefficient_bits}
+use Rattle.rules.specs.Shape.{greatest_h, phases, carriers, paths_in_use, messages, most_coefficient_bits}
 use Rattle.rules.specs.Label.{labels, label_path, coefficient, constant, label_of, message_of}
 use Rattle.rules.specs.Symbols.{Symbols}
 use Rattle.rules.specs.Word.{word_at, word_of}
 use Rattle.rules.specs.Pair.{minus}
-use Rattle.rules.specs.Symbols.{Symbols}
 use Rattle.rules.specs.Word.{symbol_at}
 use Rattle.rules.specs.Table.{message_with}
-use Rattle.rules.proofs.Range.{InRange, in_shape_range, range_in_m, coefficient_bits_le, phases_pow}
+use Rattle.rules.proofs.Range.{InRange, in_shape_range, range_in_m, coefficient_bits_le, messages_most}
+use Rattle.rules.proofs.Range.{phases_pow, phases_most}
 use Rattle.rules.proofs.Differences.{minus_lt}
 use Rattle.places.proofs.Digits.{one_lt}
 use Rattle.words.proofs.Labels.{number_of, number_of_lt, number_of_back, label_path_lt}
-use Rattle.rules.proofs.Messages.{label_of_lt}
-use Rattle.rules.proofs.Messages.{message_of_label_of}
+use Rattle.rules.proofs.Messages.{label_of_lt, message_of_lt, message_of_label_of}
 use Rattle.words.proofs.Horner.{number_of_split, number_of_cong}
 use Rattle.words.proofs.Forms.{length_word_of, word_of_at}
 use Rattle.words.proofs.Readings.{word_at_zero, coefficient_read}
@@ -44,6 +43,12 @@ use Rattle.reader.specs.Shown.{shown, shown_up_to, low_of, label_with}
 pub shown_lt : (h m : ℕ) (w : List ℕ) (k : ℕ) → shown h m w k < phases h
 unfolding shown
 shown_lt h m w k = minus_lt (phases h) (symbol_at w (2 ^ (m - k))) (symbol_at w 0) (pow_pos h)
+
+-- the coefficient, as code makes it
+pub shown_of : (h m : ℕ) (w : List ℕ) (k q at d : ℕ) → q ≡ phases h → at ≡ 2 ^ (m - k) →
+    d ≡ minus q (symbol_at w at) (symbol_at w 0) → d ≡ shown h m w k
+unfolding shown
+shown_of h m w k q at d b p e = e ∙ ap₂ (λ (x i : ℕ). minus x (symbol_at w i) (symbol_at w 0)) b p
 
 shown_up_to_is : (h m : ℕ) (w : List ℕ) (k c0 : ℕ) →
     shown_up_to h m w k * phases h + c0 ≡ number_of h k 0 (shown h m w) c0
@@ -63,7 +68,7 @@ shown_up_to_lt h m w zero = rw pow-zero (le_refl 1)
 shown_up_to_lt h m w (suc k) = rw (pow-suc (phases h) k) (digits_lt (shown_up_to_lt h m w k) (shown_lt h m w (suc k)))
 
 -- the number that is read stays far below the width of the code's numbers
-pub shown_up_to_small : (h m : ℕ) (w : List ℕ) (k : ℕ) → InRange h m → k ≤ m →
+shown_up_to_small : (h m : ℕ) (w : List ℕ) (k : ℕ) → InRange h m → k ≤ m →
     shown_up_to h m w k < 2 ^ most_coefficient_bits
 shown_up_to_small h m w k range b =
     lt_of_lt_of_le (shown_up_to_lt h m w k)
@@ -76,26 +81,38 @@ label_with_is h m w n =
     ap (λ (x : ℕ). n * phases h ^ (m + 1) + x) (shown_up_to_is h m w m (symbol_at w 0))
     ∙ sym (number_of_split h m n (shown h m w) (symbol_at w 0))
 
-pub label_with_zero : (h m : ℕ) (w : List ℕ) → low_of h m w ≡ label_with h m w 0
+-- the label of path n, as code makes it
+pub label_with_of : (h m : ℕ) (w : List ℕ) (n step low : ℕ) → step ≡ phases h ^ (m + 1) → low ≡ low_of h m w →
+    n * step + low ≡ label_with h m w n
 unfolding label_with
-label_with_zero h m w = omega (arith, zero-mul (phases h ^ (m + 1)))
-
-pub label_with_next : (h m : ℕ) (w : List ℕ) (n : ℕ) →
-    label_with h m w n + phases h ^ (m + 1) ≡ label_with h m w (n + 1)
-unfolding label_with
-label_with_next h m w n = rw (add-mul n 1 (phases h ^ (m + 1)), one-mul (phases h ^ (m + 1))) (omega arith)
+label_with_of h m w n step low p q = ap₂ (λ (x y : ℕ). n * x + y) p q
 
 module _ (h m : ℕ) (w : List ℕ) (word : Symbols h m w) where
   range : InRange h m
   range = in_shape_range h m word.shape
 
+  -- what is read so far, one base up
+  pub shown_scaled : (k n q : ℕ) → k ≤ m → n ≡ shown_up_to h m w k → q ≡ phases h →
+      n * q ≤ 2 ^ most_coefficient_bits * phases greatest_h
+  shown_scaled k n q l e b =
+      let small = shown_up_to_small h m w k range l in
+      let base : q ≤ phases greatest_h = omega (arith, b, phases_most h m range) in
+      mul-le-mul {n₁ = n} {m₁ = q} {n₂ = 2 ^ most_coefficient_bits} {m₂ = phases greatest_h}
+      (omega (arith, e, small)) base
+
   pub first_lt : symbol_at w 0 < phases h
   first_lt = word.below 0 (pow_pos m)
 
-  pub label_with_lt : (n : ℕ) → n < paths_in_use m → label_with h m w n < labels h m
+  label_with_lt : (n : ℕ) → n < paths_in_use m → label_with h m w n < labels h m
   label_with_lt n l =
       subst (λ (x : ℕ). x < labels h m) (sym (label_with_is h m w n))
       (number_of_lt h (shown h m w) m n (symbol_at w 0) l (λ j _ _. shown_lt h m w j) first_lt)
+
+  pub label_with_small : (n : ℕ) → n < paths_in_use m → label_with h m w n < 2 ^ 63
+  label_with_small n l = omega (arith, label_with_lt n l, messages_most h m range)
+
+  pub tried_lt : (n : ℕ) → n < paths_in_use m → message_of h m (label_with h m w n) < messages h m
+  tried_lt n l = message_of_lt h m _ (label_with_lt n l)
 
   -- a message's word shows the message's own label
   module _ (g : ℕ) (taken : g < messages h m) (has : word_of h m g ≡ w) where

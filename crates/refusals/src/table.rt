@@ -45,7 +45,10 @@ pub(super) fn length(n: usize, m: u32) -> Result<(), Refusal>
 pub(super) fn lengths(n: usize, k: usize, m: u32) -> Result<(), Refusal>
     ensures { judged_told result ≡ refuse 2 (bad_length n (carriers m) || bad_length k (carriers m)) allowed }
 {
-    refuse(!is_power(n as u64, m as u64) || !is_power(k as u64, m as u64), Refusal::Length)
+    refuse(
+        !is_power(n as u64, m as u64) || !is_power(k as u64, m as u64),
+        Refusal::Length,
+    )
 }
 
 // 2: n soft values are not N for two phases, or not 2N for more.
@@ -60,7 +63,10 @@ pub(super) fn soft_length(n: usize, h: u32, m: u32) -> Result<(), Refusal>
 pub(super) fn areas(n: usize, k: usize, m: u32) -> Result<(), Refusal>
     ensures { judged_told result ≡ refuse 2 (short_area n m || short_area k m) allowed }
 {
-    refuse(!reaches(n as u64, m as u64) || !reaches(k as u64, m as u64), Refusal::Length)
+    refuse(
+        !reaches(n as u64, m as u64) || !reaches(k as u64, m as u64),
+        Refusal::Length,
+    )
 }
 
 // 3: the first symbol that is 2^h or more.
@@ -135,7 +141,8 @@ fn bad_value(m: u32, area: &[i32]) -> Option<usize>
 fn first_reaching(word: &[u8], h: u32) -> Option<usize>
     ensures { result ≡ position (λ s. leb (phases h) s) word.now }
 {
-    word.iter().position(|&symbol| reaches(u64::from(symbol), u64::from(h)))
+    word.iter()
+        .position(|&symbol| reaches(u64::from(symbol), u64::from(h)))
 }
 
 fn first_outside(entries: &[i32]) -> Option<usize>

@@ -84,7 +84,10 @@ pub fn power(e: u32) -> u64
 pub fn path_bits(m: u32) -> u32
     ensures { result ≡ path_bits m }
 {
-    PATH_BITS.get(m.saturating_sub(2) as usize).copied().unwrap_or(0)
+    PATH_BITS
+        .get(m.saturating_sub(2) as usize)
+        .copied()
+        .unwrap_or(0)
 }
 
 // The label number of a message number, and back, where the shape is in range; else the number itself. Today they are

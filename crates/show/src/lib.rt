@@ -1,108 +1,78 @@
-// Writes text, numbers, words, areas, soft values and refusals, for the programs, which give the writer. No contract
-// speaks of what is written; each function is proved to stay within its slice and to end. The first write that fails is
-// the last, and its error is the answer.
+// How the programs print what the calls answer: each type wraps a part of an answer, which `{}` then prints.
+// No contract speaks of what is printed; each `fmt` is proved safe and to end.
 #![tactic(auto)]
 
-use kinds::Refusal;
-use std::io;
-use std::io::Write;
+use kinds::{MessageNumber, Place, Refusal, Which};
+use std::fmt;
 
-pub fn say<W: Write>(out: &mut W, text: &[u8]) -> io::Result<()> {
-    out.write_all(text)
-}
+// A message by its number.
+#[derive(Clone, Copy)]
+pub struct Message(pub MessageNumber);
 
-pub fn number<W: Write>(out: &mut W, x: u64) -> io::Result<()> {
-    write!(out, "{x}")
-}
-
-// A signed number, with its sign where it is below zero.
-pub fn signed<W: Write>(out: &mut W, x: i32) -> io::Result<()> {
-    let wide = x as i64;
-    if wide < 0 {
-        say(out, b"-")?;
-        number(out, (0 - wide) as u64)
-    } else {
-        number(out, wide as u64)
+impl fmt::Display for Message {
+    fn fmt<W: fmt::Write>(&self, f: &mut fmt::Formatter<W>) -> fmt::Result {
+        let MessageNumber(number) = self.0;
+        write!(f, "message {number}")
     }
 }
 
-// The entries of an area in brackets, with a space between two, as the case files have them.
-pub fn area<W: Write>(out: &mut W, entries: &[i32]) -> io::Result<()> {
-    say(out, b"[")?;
-    let mut i = 0;
-    while i < entries.len() {
-        entry(out, i, entries[i])?;
-        i += 1;
-    }
-    say(out, b"]")
-}
+// Whether another word is as good as the one found.
+#[derive(Clone, Copy)]
+pub struct Tie(pub bool);
 
-// The entry at a place of its area.
-fn entry<W: Write>(out: &mut W, place: usize, x: i32) -> io::Result<()> {
-    if place == 0 {
-        signed(out, x)
-    } else {
-        spaced(out, x)
+impl fmt::Display for Tie {
+    fn fmt<W: fmt::Write>(&self, f: &mut fmt::Formatter<W>) -> fmt::Result {
+        f.write_str(if self.0 { "tied" } else { "not tied" })
     }
 }
 
-fn spaced<W: Write>(out: &mut W, x: i32) -> io::Result<()> {
-    say(out, b" ")?;
-    signed(out, x)
-}
+// A word: its symbols one behind the other, each as a digit, or in parentheses where it needs more than one.
+#[derive(Clone, Copy)]
+pub struct Word<'a>(pub &'a [u8]);
 
-// Soft values in brackets, with a space before each and before the brackets.
-pub fn values<W: Write>(out: &mut W, y: &[i16]) -> io::Result<()> {
-    say(out, b" [")?;
-    let mut i = 0;
-    while i < y.len() {
-        value(out, y[i])?;
-        i += 1;
+impl fmt::Display for Word<'_> {
+    fn fmt<W: fmt::Write>(&self, f: &mut fmt::Formatter<W>) -> fmt::Result {
+        for &symbol in self.0 {
+            if symbol < 10 {
+                write!(f, "{symbol}")?;
+            } else {
+                write!(f, "({symbol})")?;
+            }
+        }
+        Ok(())
     }
-    say(out, b" ]")
 }
 
-fn value<W: Write>(out: &mut W, x: i16) -> io::Result<()> {
-    spaced(out, x as i32)
-}
+// A list: its entries with a space between two.
+#[derive(Clone, Copy)]
+pub struct List<'a, T>(pub &'a [T]);
 
-// The symbols of a word, one behind the other, without brackets.
-pub fn symbols<W: Write>(out: &mut W, word: &[u8]) -> io::Result<()> {
-    let mut i = 0;
-    while i < word.len() {
-        symbol(out, word[i])?;
-        i += 1;
-    }
-    Ok(())
-}
-
-// A symbol as a digit, or in parentheses where it needs more than one.
-fn symbol<W: Write>(out: &mut W, x: u8) -> io::Result<()> {
-    if x < 10 {
-        number(out, x as u64)
-    } else {
-        say(out, b"(")?;
-        number(out, x as u64)?;
-        say(out, b")")
+impl<T: fmt::Display> fmt::Display for List<'_, T> {
+    fn fmt<W: fmt::Write>(&self, f: &mut fmt::Formatter<W>) -> fmt::Result {
+        let Some((first, rest)) = self.0.split_first() else {
+            return Ok(());
+        };
+        write!(f, "{first}")?;
+        for entry in rest {
+            write!(f, " {entry}")?;
+        }
+        Ok(())
     }
 }
 
 // A refusal by its number in the table of 01, with its place and its word where it carries them.
-pub fn refusal<W: Write>(out: &mut W, why: Refusal) -> io::Result<()> {
-    say(out, b"refused ")?;
-    number(out, why.number() as u64)?;
-    if let Some(place) = why.place() {
-        say(out, b" at place ")?;
-        number(out, place.0 as u64)?;
-    }
-    if let Some(word) = why.which() {
-        say(out, b" of word ")?;
-        number(out, word.0 as u64)?;
-    }
-    Ok(())
-}
+#[derive(Clone, Copy)]
+pub struct Refused(pub Refusal);
 
-// A refusal in words.
-pub fn reason<W: Write>(out: &mut W, why: Refusal) -> io::Result<()> {
-    write!(out, "{why}")
+impl fmt::Display for Refused {
+    fn fmt<W: fmt::Write>(&self, f: &mut fmt::Formatter<W>) -> fmt::Result {
+        write!(f, "refused {}", self.0.number())?;
+        if let Some(Place(place)) = self.0.place() {
+            write!(f, " at place {place}")?;
+        }
+        if let Some(Which(word)) = self.0.which() {
+            write!(f, " of word {word}")?;
+        }
+        Ok(())
+    }
 }

@@ -26,11 +26,7 @@ pub fn steps(m: u32, n: PathNumber) -> [u8; STEPS]
 fn in_use(m: u32, n: PathNumber) -> bool
     ensures { result ≡ in_use m n.0 }
 {
-    if !shape::in_m(m) {
-        return false;
-    }
-    let at = n.0 as u64;
-    at < shape::power(shape::path_bits(m))
+    shape::in_m(m) && u64::from(n.0) < shape::power(shape::path_bits(m))
 }
 
 // The steps of a path of m out of its number, 0 after the m-th.
@@ -40,10 +36,8 @@ fn unpack(m: u32, number: u32) -> [u8; STEPS]
 {
     let n = m as usize;
     let mut p = [0u8; STEPS];
-    let mut k: usize = 0;
-    while k < n {
-        p[k] = ((number >> (3 * (n - 1 - k))) % 8) as u8;
-        k += 1;
+    for (k, step) in p[..n].iter_mut().enumerate() {
+        *step = ((number >> (3 * (n - 1 - k))) % 8) as u8;
     }
     p
 }

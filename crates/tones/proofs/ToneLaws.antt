@@ -1,29 +1,12 @@
--- Laws of the soft values. In order: a level above 0 or below it, and a tone, are at most 65,536; one number of
--- the generator more; one value more.
+-- Laws of the soft values. In order: one number of the generator more; one value more.
 -- Assumes nothing.
-use Prim.Native.Nat.{ℕ, ◌+◌, ◌/◌, ◌%◌, ◌≤◌}
+use Prim.Native.Nat.{ℕ, ◌+◌}
 use native.Mathlib.Numerals.{add-one}
-use native.Mathlib.Omega.{arith}
 use mathlib.Core.Path.{◌≡◌, sym, ◌∙◌, ap}
-use mathlib.Core.Bool.{Bool, true, false, cond}
+use mathlib.Core.Bool.{Bool}
 use mathlib.Core.List.{List}
-use lib.Dec.{eqb, ltb}
-use lib.ListN.{get_or}
 use lib.IntN.{ℤ}
-use Rattle.tones.specs.Tones.{next, seed_at, side, tone, moved, lowered, heard_at}
-
-side_le : (a : ℕ) (up : Bool) → side a up ≤ 65536
-side_le a true = omega arith
-side_le a false = omega arith
-
-pub tone_le : (a : ℕ) (four : Bool) (w : List ℕ) (e : ℕ) → tone a four w e ≤ 65536
-unfolding tone
-tone_le a false w e = side_le a (eqb (get_or w e 0) 0)
-tone_le a true w e = at (eqb (get_or w (e / 2) 0 % 2) (e % 2))
-  where
-    at : (t : Bool) → cond t (side a (ltb (get_or w (e / 2) 0) 2)) 32768 ≤ 65536
-    at true = side_le a (ltb (get_or w (e / 2) 0) 2)
-    at false = omega arith
+use Rattle.tones.specs.Tones.{next, seed_at, tone, moved, lowered, heard_at}
 
 pub seed_at_next : (s e r t : ℕ) → r ≡ seed_at s e → t ≡ next r → t ≡ seed_at s (e + 1)
 unfolding seed_at

@@ -1,6 +1,6 @@
 -- The loop over the stages, as a record of what stands after k of them, and its turns.
--- In order: what stands; the stride halves; after the last stage; before the first; a turn after an even number of
--- stages, and after an odd one: what the stage may read, and what stands then.
+-- In order: what stands; the stride halves; after the last stage; before the first; the stride of the next; a turn
+-- after an even number of stages, and after an odd one: what the stage may read, and what stands then.
 -- Not here: which area holds which stage (Stages).  Assumes nothing.
 use Prim.Native.Nat.{ℕ, suc, ◌+◌, ◌-◌, ◌/◌, ◌%◌, ◌^◌, ◌≤◌, ◌<◌}
 use native.Mathlib.Nat.{sub-zero, pow-suc}
@@ -16,7 +16,7 @@ use Rattle.rules.specs.Shape.{carriers}
 use Rattle.rules.specs.Spectrum.{stages}
 use Rattle.rules.proofs.Range.{in_m_range}
 use Rattle.rules.proofs.RefusalLaws.{TransformTaken}
-use Rattle.transform.specs.Butterflies.{butterfly, Readable, first_at, second_at}
+use Rattle.transform.specs.Butterflies.{butterfly, Stride, Readable, first_at, second_at}
 use Rattle.transform.proofs.Stages.{Holds, holds_readable, holds_turn, first_at_none, second_at_none}
 use Rattle.transform.proofs.Stages.{length_first_at, length_second_at}
 use Rattle.transform.proofs.Stages.{first_at_holds, first_at_turn, first_at_stays}
@@ -58,6 +58,14 @@ module _ (m n : ℕ) (a b : List ℤ) (t : TransformTaken m a b) (size : n ≡ c
 
     pub between_second : length second ≡ length b
     between_second = ap length v.there ∙ length_second_at m a b t.first t.second k
+
+    -- the stride of the next stage
+    pub between_stride : k < m → Stride (s / 2)
+    between_stride l = record {
+      digit = m - suc k;
+      below = omega (arith, (in_m_range m t.range).1);
+      at = stride_half m k s l v.stride;
+    }
 
     -- one stage more: what stands then, from what each area holds
     onward : k < m → {first' second' : List ℤ} → first' ≡ first_at m (suc k) a → second' ≡ second_at m (suc k) a b →

@@ -1,6 +1,7 @@
 -- The steps of the transform as code takes them.
 -- Defines:  addable              two numbers below it in size can be added in 32 bits, and one taken from the other
 --           butterfly s y i      what a stage writes at place i, from y, where the two places of a pair lie s apart
+--           Stride s             s is the stride of a stage: a power of 2 below the most entries
 --           Start s i            i is where a block of 2 s entries begins: it is a multiple of 2 s
 --           Readable s n a       a stage may read the first n entries of a: blocks of 2 s fill them, and any two of
 --                                them can be added
@@ -13,7 +14,7 @@ use Rattle.std.specs.Prelude.{eqb, ℤ, ◌+ℤ◌, ◌-ℤ◌, length}
 use Rattle.std.specs.Int.Signed.{mag}
 use Rattle.range.specs.Below.{filled}
 use Rattle.range.specs.Signed.{entry}
-use Rattle.rules.specs.Shape.{carriers}
+use Rattle.rules.specs.Shape.{greatest_m, carriers}
 use Rattle.rules.specs.Spectrum.{stages}
 
 abbrev pub addable : ℕ
@@ -21,6 +22,11 @@ addable = 2 ^ 30
 
 unfoldable pub butterfly : ℕ → (ℕ → ℤ) → ℕ → ℤ
 butterfly s y i = cond (eqb (i / s % 2) 0) (y i +ℤ y (i + s)) (y (i - s) -ℤ y i)
+
+pub record Stride (s : ℕ) : Type 0 where
+  pub digit : ℕ
+  pub below : digit < greatest_m
+  pub at : s ≡ 2 ^ digit
 
 pub record Start (s i : ℕ) : Type 0 where
   pub number : ℕ

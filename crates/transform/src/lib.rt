@@ -18,7 +18,7 @@ ghost use Rattle.rules.specs.Shape.{carriers};
 ghost use Rattle.rules.specs.Outcome.{allowed};
 ghost use Rattle.rules.specs.Refusal.{transform_refusal};
 ghost use Rattle.transform.specs.Transformed.{Ran, Handed, AtLast};
-ghost use Rattle.transform.specs.Butterflies.{butterfly, first_at, second_at, Readable, Block};
+ghost use Rattle.transform.specs.Butterflies.{butterfly, first_at, second_at, Stride, Readable, Block};
 
 // The spectrum of the first N entries of the first area, as a part of the area that holds it: of the first for even m,
 // of the second for odd m. The other area then holds what stood after stage m - 1, and entries from N on stay in both.
@@ -26,6 +26,7 @@ ghost use Rattle.transform.specs.Butterflies.{butterfly, first_at, second_at, Re
 // Where it is refused nothing changes, and the part is the empty one at the front of the first area.
 // The part can only be read, so what the areas hold when it is over is known at the return. The starred clause says
 // what both areas hold at last, whole; the other what the part holds and where it stands.
+// Kept: a proof by hand walks through these statements, and a `match` on the count is no plainer.
 pub fn transform<'a>(m: u32, first: &'a mut [i32], second: &'a mut [i32]) -> &'a [i32]
     ensures* areas { sem 𝓛 (AtLast m first.entry second.entry) }
     ensures handed { Handed m first.entry second.entry result }
@@ -43,6 +44,7 @@ pub fn transform<'a>(m: u32, first: &'a mut [i32], second: &'a mut [i32]) -> &'a
 // Runs the stages between the two areas, and answers how many entries the spectrum has: N, or 0 where the transform is
 // refused, and both areas then stay as they are. It is the transform without its part, for callers that go on with the
 // areas themselves.
+// Kept: an Option would say it too, but the promise `Ran` and the theorems on it speak of this number.
 pub fn run(m: u32, first: &mut [i32], second: &mut [i32]) -> usize
     ensures { Ran m first.old second.old result first.new second.new }
 {
@@ -62,91 +64,53 @@ fn rounds(m: u32, n: usize, first: &mut [i32], second: &mut [i32])
     ensures second_after { second.new ≡ second_at m m first.old second.old }
 {
     let mut s = n;
-    let mut k = 0;
-    while k < m {
-        s = s / 2;
+    for k in 0..m {
+        s /= 2;
         if k % 2 == 0 {
             stage(s, n, first, second);
         } else {
             stage(s, n, second, first);
         }
-        k += 1;
     }
 }
 
-// One stage. Strides up to 16 are written out above the loops, so that the compiler knows how long they are; the last
-// call serves any other.
+// One stage. Its stride is a const parameter of what it calls, so that the compiler knows how long the loops are.
 fn stage(s: usize, n: usize, from: &[i32], to: &mut [i32])
+    requires stride { Stride s }
     requires readable { Readable s n from.now }
+    requires n_least { 0 < n }
     requires n_in_bounds { n ≤ length to.old }
     ensures { to.new ≡ filled n (butterfly s (entry from.now)) to.old }
 {
     match s {
-        1 => pass(1, n, from, to),
-        2 => pass(2, n, from, to),
-        4 => pass(4, n, from, to),
-        8 => pass(8, n, from, to),
-        16 => pass(16, n, from, to),
-        _ => pass(s, n, from, to),
+        1 => pass::<1>(n, from, to),
+        2 => pass::<2>(n, from, to),
+        4 => pass::<4>(n, from, to),
+        8 => pass::<8>(n, from, to),
+        _ => pass::<16>(n, from, to),
     }
 }
 
-// One stage of any stride: block after block of 2 s entries.
-fn pass(s: usize, n: usize, from: &[i32], to: &mut [i32])
-    requires readable { Readable s n from.now }
+// One stage of stride S: block after block of 2 S entries.
+fn pass<const S: usize>(n: usize, from: &[i32], to: &mut [i32])
+    requires readable { Readable S n from.now }
+    requires n_least { 0 < n }
     requires n_in_bounds { n ≤ length to.old }
-    ensures { to.new ≡ filled n (butterfly s (entry from.now)) to.old }
+    ensures { to.new ≡ filled n (butterfly S (entry from.now)) to.old }
 {
-    let mut p = 0;
-    while p < n {
-        sums(s, p, from, to);
-        differences(s, p, from, to);
-        p = p + s + s;
+    for p in (0..n).step_by(2 * S) {
+        block::<S>(p, from, to);
     }
 }
 
-// The first half of the block that begins at p: the sums of its entries and those of the second half.
-fn sums(s: usize, p: usize, from: &[i32], to: &mut [i32])
-    requires { Block s p from.now to.old }
-    ensures { Fills (butterfly s (entry from.now)) to.old p to.new (p + s) }
+// The block that begins at p: the sums of its halves in the first, the differences in the second.
+fn block<const S: usize>(p: usize, from: &[i32], to: &mut [i32])
+    requires { Block S p from.now to.old }
+    ensures { Fills (butterfly S (entry from.now)) to.old p to.new (p + S + S) }
 {
-    let end = p + s;
-    let mut i = p;
-    while i < end {
-        to[i] = sum(from, i, i + s);
-        i += 1;
+    for i in p..p + S {
+        let (x, y) = (from[i], from[i + S]);
+        to[i] = x + y;
+        to[i + S] = x - y;
     }
-}
-
-// The second half: the entries of the first half less its own.
-fn differences(s: usize, p: usize, from: &[i32], to: &mut [i32])
-    requires { Block s p from.now to.old }
-    ensures { Fills (butterfly s (entry from.now)) to.old (p + s) to.new
-        (p + s + s) }
-{
-    let end = p + s + s;
-    let mut i = p + s;
-    while i < end {
-        to[i] = less(from, i - s, i);
-        i += 1;
-    }
-}
-
-// Two entries added, and the first less the second.
-fn sum(a: &[i32], i: usize, j: usize) -> i32
-    requires i_in_bounds { i < length a.now }
-    requires j_in_bounds { j < length a.now }
-    requires sfits { SFits w32 (entry a.now i +ℤ entry a.now j) }
-    ensures { result ≡ entry a.now i +ℤ entry a.now j }
-{
-    a[i] + a[j]
-}
-
-fn less(a: &[i32], i: usize, j: usize) -> i32
-    requires i_in_bounds { i < length a.now }
-    requires j_in_bounds { j < length a.now }
-    requires sfits { SFits w32 (entry a.now i -ℤ entry a.now j) }
-    ensures { result ≡ entry a.now i -ℤ entry a.now j }
-{
-    a[i] - a[j]
 }

@@ -9,7 +9,12 @@ use kinds::{MessageNumber, Refusal};
 
 // Encodes a message and reads the word: the message comes back. Where encode refuses, the slice stays as it was, and is
 // read so.
-pub fn read_back(h: u32, m: u32, message: MessageNumber, word: &mut [u8]) -> Result<MessageNumber, Refusal>
+pub fn read_back(
+    h: u32,
+    m: u32,
+    message: MessageNumber,
+    word: &mut [u8],
+) -> Result<MessageNumber, Refusal>
     ensures { ReadBack h m message.0 word.old result word.new }
 {
     let _ = encoder::encode(h, m, message, word);

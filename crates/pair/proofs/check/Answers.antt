@@ -7,7 +7,7 @@ use Rattle.rules.specs.Refusal.{pair_outcome}
 use Rattle.rules.proofs.OutcomeLaws.{and_then_refused}
 use Rattle.rules.proofs.RefusalLaws.{pair_taken}
 use Rattle.kinds.proofs.RefusalLaws.{handed_on}
-use Rattle.pair.proofs.Given.{pair_given, pair_words}
+use Rattle.pair.proofs.Given.{pair_given}
 use Rattle.pair.proofs.check.Goals as goal
 
 pub returns-in_err-pair : goal.returns-in_err-pair
@@ -15,12 +15,15 @@ unfolding pair_outcome
 returns-in_err-pair c =
     handed_on (λ b. b) _ c.in_err-pair.field-0.0 (search rules) (and_then_refused _ c.in_err-pair.ensures)
 
-pub all_shifts-requires : goal.all_shifts-requires
-all_shifts-requires c =
+pub invariant_of-shape : goal.invariant_of-shape
+invariant_of-shape c = record { in_range = (pair_taken c.args.h c.args.m _ _ (sym c.in_ok-pair.ensures)).0.shape }
+
+pub invariant_of-pair : goal.invariant_of-pair
+invariant_of-pair c =
     let words = pair_taken _ _ _ _ (sym c.in_ok-pair.ensures) in
-    pair_words _ _ _ _ words.0 words.1
+    record { first_symbols = words.0; second_symbols = words.1 }
 
 pub returns : goal.returns
 returns c =
     let words = pair_taken _ _ _ _ (sym c.in_ok-pair.ensures) in
-    ap gives (c.all_shifts.ensures _ words.0.long) ∙ pair_given _ _ _ _ words.0 words.1
+    ap gives c.all_shifts.ensures ∙ pair_given _ _ _ _ words.0 words.1

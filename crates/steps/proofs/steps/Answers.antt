@@ -1,10 +1,9 @@
 -- `steps::steps` meets its contract: the constants are the table of the paths in use, which antt computes and compares.
 -- Assumes nothing.
-use Prim.Native.Nat.{◌≤◌, ◌<◌}
 use mathlib.Core.Path.{sym, ◌∙◌}
 use mathlib.Core.List.{flat_map}
 use Rattle.range.specs.Below.{sum_below, list_below, rows_below}
-use Rattle.rules.specs.Shape.{greatest_m, path_bits, paths_in_use}
+use Rattle.rules.specs.Shape.{path_bits}
 use Rattle.rules.specs.Path.{keep, without, orders, up_to, paths, path_at}
 use Rattle.steps.proofs.PathTable.{in_use_range, steps_of_unused, packed, table, starts, start_lt, table_steps}
 use Rattle.steps.proofs.steps.Goals as goal
@@ -15,15 +14,8 @@ returns-then-not-in_use c =
 
 pub bounds-first : goal.bounds-first
 unfolding list_below path_bits starts sum_below
-bounds-first c =
-    let used : (2 ≤ c.args.m) × (c.args.m ≤ greatest_m) × (c.args.n.0 < paths_in_use c.args.m) =
-    in_use_range _ _ (sym c.in_use.ensures ∙ c.if-not-in_use.false) in
-    start_lt _ _ used.0 used.1 used.2
+bounds-first c = start_lt _ _ (in_use_range _ _ (sym c.in_use.ensures ∙ c.if-not-in_use.false))
 
 pub returns : goal.returns
 unfolding flat_map keep list_below orders packed path_at path_bits paths rows_below starts sum_below table up_to without
-returns c =
-    let used : (2 ≤ c.args.m) × (c.args.m ≤ greatest_m) × (c.args.n.0 < paths_in_use c.args.m) =
-    in_use_range _ _ (sym c.in_use.ensures ∙ c.if-not-in_use.false) in
-    let u = used in
-    c.unpack.ensures ∙ table_steps _ _ u.0 u.1 u.2
+returns c = c.unpack.ensures ∙ table_steps _ _ (in_use_range _ _ (sym c.in_use.ensures ∙ c.if-not-in_use.false))

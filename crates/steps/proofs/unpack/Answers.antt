@@ -1,29 +1,26 @@
 -- `steps::unpack` meets its contract: step after step it takes the digit out of the number.
--- Invariant: the first k steps are taken, the others are 0. Measure: the steps left.  Assumes nothing.
-use Prim.Native.Nat.{ℕ, ◌<◌}
+-- Assumes nothing.
+use Prim.Native.Nat.{ℕ}
 use native.Mathlib.Omega.{arith}
-use mathlib.Core.Path.{◌≡◌, refl, ◌∙◌, ap}
-use Rattle.range.specs.Below.{filled}
-use Rattle.range.proofs.Filled.{filled_zero, filled_turn}
+use mathlib.Core.Path.{refl, ap}
+use mathlib.Core.List.{List, ◌++◌}
+use lib.ListN.{replicate, drop}
+use lib.Seq.{length-take-le}
+use Rattle.range.proofs.Filled.{filled_zero, filled_turn, filled_end}
 use Rattle.rules.specs.Shape.{greatest_m}
-use Rattle.steps.specs.PathSteps.{step_in, unpacked}
-use Rattle.steps.proofs.unpack.Invariants.{zeros}
+use Rattle.steps.specs.PathSteps.{unpacked}
 use Rattle.steps.proofs.unpack.Goals as goal
 
 pub loop-k-init : goal.loop-k-init
-loop-k-init c =
-    (omega arith, filled_zero _ zeros)
+loop-k-init c = filled_zero _ _
 
 pub loop-k-preserved : goal.loop-k-preserved
-loop-k-preserved c =
-    let inside : c.loop-k.k < greatest_m = omega (arith, c.loop-k-test.true, c.requires) in
-    let at_loop = c.loop-k in
-    let next = filled_turn at_loop.k _ zeros at_loop.p _ inside at_loop.invariant.1 refl in
-    (omega (arith, c.loop-k-test.true), next)
+loop-k-preserved c = filled_turn c.loop-k.k _ _ _ _ c.loop-k-test.true c.loop-k.invariant refl
 
 pub returns : goal.returns
 unfolding unpacked
 returns c =
-    let at_loop = c.loop-k in
-    let e : at_loop.k ≡ c.args.m = omega (arith, at_loop.invariant.0, c.loop-k-test.false) in
-    at_loop.invariant.1 ∙ ap (λ (j : ℕ). filled j (step_in c.args.m c.args.number) zeros) e
+    let zeros : List ℕ = replicate greatest_m 0 in
+    let all = length-take-le c.args.m zeros c.requires in
+    ap (λ (p : List ℕ). p ++ drop c.args.m zeros)
+    (filled_end c.args.m c.loop-k.k _ _ _ all (omega (arith, all, c.loop-k-test.false)) c.loop-k.invariant)

@@ -1,8 +1,6 @@
 -- `tones::hear` meets its contract: turn after turn the generator goes one number on and a value is written.
--- Invariant: a loop over the whole slice, which writes, stands at e, and the seed is the e-th. Measure: the values
--- left.
+-- Invariant: a loop over the whole slice, which writes, stands at e, and the seed is the e-th.
 -- Assumes nothing.
-use Prim.Native.Nat.{◌-◌}
 use mathlib.Core.Path.{◌≡◌}
 use lib.ListN.{length}
 use Rattle.range.proofs.Fills.{Filling}
@@ -11,8 +9,5 @@ use Rattle.tones.proofs.hear.Given as goal
 
 abbrev pub invariant-loop-e : goal.invariant-loop-e
 invariant-loop-e l =
-    Filling (heard_at l.level l.noise l.initial.seed l.four l.word) l.initial.y 0 (length l.initial.y) l.y l.e
-    × (l.seed ≡ seed_at l.initial.seed l.e)
-
-abbrev pub decreases-loop-e : goal.decreases-loop-e
-decreases-loop-e l = length l.initial.y - l.e
+    let f = heard_at l.channel.level l.channel.noise l.channel.seed l.four l.word in
+    Filling f l.initial.y 0 (length l.initial.y) l.y l.e × (l.seed ≡ seed_at l.channel.seed l.e)

@@ -5,7 +5,7 @@ use Prim.Native.Nat.{ℕ, ◌%◌}
 use native.Mathlib.Omega.{arith}
 use mathlib.Core.Path.{◌≡◌, ◌∙◌}
 use Rattle.rules.proofs.RefusalLaws.{TransformTaken, transform_taken}
-use Rattle.transform.proofs.Between.{between_none, between_first, between_second}
+use Rattle.transform.proofs.Between.{between_none, between_first, between_second, between_stride}
 use Rattle.transform.proofs.Between.{between_even, between_odd, between_reads_first, between_reads_second}
 use Rattle.transform.proofs.rounds.Goals.{Start, then-k-eq0, else-k-eq0}
 use Rattle.transform.proofs.rounds.Goals as goal
@@ -25,6 +25,16 @@ pub stage-requires-clause-readable : goal.stage-requires-clause-readable
 stage-requires-clause-readable c =
     between_reads_first _ _ _ _ (taken (goal.at.stage-requires-clause-readable c).Start) c.requires.n_value _ _ _ _
     c.loop-k.invariant c.loop-k-test.true c.if-k-eq0.true
+
+pub stage-requires-clause-stride : goal.stage-requires-clause-stride
+stage-requires-clause-stride c =
+    between_stride _ _ _ _ (taken (goal.at.stage-requires-clause-stride c).Start) c.requires.n_value _ _ _ _
+    c.loop-k.invariant c.loop-k-test.true
+
+pub stage-requires-else-k-eq0-clause-stride : goal.stage-requires-else-k-eq0-clause-stride
+stage-requires-else-k-eq0-clause-stride c =
+    between_stride _ _ _ _ (taken (goal.at.stage-requires-else-k-eq0-clause-stride c).Start) c.requires.n_value _ _ _ _
+    c.loop-k.invariant c.loop-k-test.true
 
 pub stage-requires-clause-n_in_bounds : goal.stage-requires-clause-n_in_bounds
 stage-requires-clause-n_in_bounds c =

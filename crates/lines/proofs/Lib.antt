@@ -1,2 +1,0 @@
--- The laws that several functions of the crate cite.
-mod Fronts

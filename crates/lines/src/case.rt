@@ -1,0 +1,102 @@
+// A case, which is a call of the library, as a line has it:
+//   encode H M MESSAGE WORD     the word given is what the slice holds before
+//   partner H M MESSAGE WORD
+//   pair H M WORD WORD
+//   read H M WORD
+//   hard H M WORD
+//   soft H M LIST
+//   transform M LIST LIST       the lists given are both areas before
+//   run M LIST LIST
+//   look M LIST LIST
+use crate::rest::{Rest, Row};
+use crate::telling::{tell, tell_areas, tell_found, tell_sent};
+use kinds::MessageNumber;
+use show::{List, Message, Refused};
+use std::io;
+use std::io::Write;
+
+#[derive(Drop)]
+pub enum Case {
+    Encode(u32, u32, MessageNumber, Row<u8>),
+    Partner(u32, u32, MessageNumber, Row<u8>),
+    Pair(u32, u32, Row<u8>, Row<u8>),
+    Read(u32, u32, Row<u8>),
+    Hard(u32, u32, Row<u8>),
+    Soft(u32, u32, Row<i16>),
+    Transform(u32, Row<i32>, Row<i32>),
+    Run(u32, Row<i32>, Row<i32>),
+    Look(u32, Row<i32>, Row<i32>),
+}
+
+impl Case {
+    // The case that a line is, if it is one.
+    pub(super) fn of(line: &[u8]) -> Option<Case> {
+        let rest = &mut Rest::of(line);
+        let case = match rest.name() {
+            b"encode" => Case::Encode(
+                rest.number()?,
+                rest.number()?,
+                rest.message()?,
+                rest.word()?,
+            ),
+            b"partner" => Case::Partner(
+                rest.number()?,
+                rest.number()?,
+                rest.message()?,
+                rest.word()?,
+            ),
+            b"pair" => Case::Pair(rest.number()?, rest.number()?, rest.word()?, rest.word()?),
+            b"read" => Case::Read(rest.number()?, rest.number()?, rest.word()?),
+            b"hard" => Case::Hard(rest.number()?, rest.number()?, rest.word()?),
+            b"soft" => Case::Soft(rest.number()?, rest.number()?, rest.list()?),
+            b"transform" => Case::Transform(rest.number()?, rest.list()?, rest.list()?),
+            b"run" => Case::Run(rest.number()?, rest.list()?, rest.list()?),
+            b"look" => Case::Look(rest.number()?, rest.list()?, rest.list()?),
+            _ => return None,
+        };
+        rest.is_empty().then_some(case)
+    }
+
+    // Makes the call, and writes its answer.
+    pub(super) fn answer<W: Write>(self, out: &mut W) -> io::Result<()> {
+        match self {
+            Case::Encode(h, m, message, mut word) => {
+                let sent = encoder::encode(h, m, message, &mut word);
+                tell_sent(out, sent, &word)
+            }
+            Case::Partner(h, m, message, mut word) => {
+                let sent = encoder::partner(h, m, message, &mut word);
+                tell_sent(out, sent, &word)
+            }
+            Case::Pair(h, m, first, second) => {
+                let checked = pair::check(h, m, &first, &second);
+                tell(out, checked.map(|pair| if pair { "yes" } else { "no" }))
+            }
+            Case::Read(h, m, word) => tell(out, reader::read(h, m, &word).map(Message)),
+            Case::Hard(h, m, word) => tell_found(out, "distance", decoder::hard(h, m, &word)),
+            Case::Soft(h, m, values) => tell_found(
+                out,
+                "correlation",
+                decoder::soft(h, m, &values),
+            ),
+            Case::Transform(m, mut first, mut second) => {
+                let judged = refusals::transform(m, &first, &second);
+                let part = List(transform::transform(m, &mut first, &mut second));
+                match judged {
+                    Ok(()) => write!(out, "part [{part}]")?,
+                    Err(why) => write!(out, "{}", Refused(why))?,
+                }
+                tell_areas(out, &first, &second)
+            }
+            Case::Run(m, mut first, mut second) => {
+                write!(out, "{}", transform::run(m, &mut first, &mut second))?;
+                tell_areas(out, &first, &second)
+            }
+            Case::Look(m, mut first, mut second) => {
+                let seen = caller::look(m, &mut first, &mut second);
+                write!(out, "{} and {}", seen.total, seen.kept)?;
+                tell_areas(out, &first, &second)
+            }
+        }
+    }
+}
