@@ -1,14 +1,13 @@
 -- How long slices and tables are, as code counts them. In order: soft values; a table of gains fits its area.
 -- Assumes nothing.
-use Prim.Native.Nat.{ℕ, ◌+◌, ◌*◌, ◌^◌, ◌≤◌}
-use native.Mathlib.Nat.{mul_comm}
-use native.Mathlib.Omega.{arith}
+use Prim.Native.Nat.{ℕ, ◌*◌, ◌≤◌}
+use native.Mathlib.Nat.{mul_comm, mul-le-mul}
 use mathlib.Core.Path.{◌≡◌, ◌∙◌}
 use mathlib.Core.Bool.{true}
 use lib.Pow.{pow_mono}
 use Rattle.rules.specs.Shape.{greatest_m, in_shape, phases, half_turn, carriers}
 use Rattle.rules.specs.Soft.{soft_length}
-use Rattle.rules.proofs.Range.{in_shape_range}
+use Rattle.rules.proofs.Range.{in_shape_range, carriers_most}
 use Rattle.engine.specs.Search.{greatest_decoded}
 use Rattle.signals.proofs.Clean.{soft_length_half}
 
@@ -19,7 +18,5 @@ soft_length_product h m e two =
 
 -- a table of gains fits its area
 pub gains_fit : (h m : ℕ) → in_shape h m ≡ true → h ≤ greatest_decoded →
-    2 ^ (h + m) ≤ phases greatest_decoded * carriers greatest_m
-gains_fit h m e two =
-    let b : h + m ≤ greatest_decoded + greatest_m = omega (arith, (in_shape_range h m e).m_most) in
-    pow_mono b
+    phases h * carriers m ≤ phases greatest_decoded * carriers greatest_m
+gains_fit h m e two = mul-le-mul (pow_mono two) (carriers_most h m (in_shape_range h m e))

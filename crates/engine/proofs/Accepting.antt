@@ -6,13 +6,14 @@ use Prim.Native.Nat.{ℕ, ◌+◌, ◌*◌, ◌^◌, ◌≤◌, ◌<◌}
 use native.Mathlib.Nat.{mul-le-mul}
 use native.Mathlib.Decide.{dec_lt}
 use native.Mathlib.Omega.{arith}
-use mathlib.Core.Path.{◌≡◌, sym}
-use mathlib.Core.Bool.{Bool, true, false}
-use mathlib.Core.List.{List}
+use mathlib.Core.Path.{◌≡◌, refl, sym, ap}
+use mathlib.Core.Bool.{Bool, true, false, ◌&&◌}
+use mathlib.Core.List.{List, [], ◌∷◌}
 use lib.Dec.{eqb, leb}
 use lib.ListN.{length, get_or, get_or-eq_default}
 use lib.Pow.{pow-add}
 use borrow.Author.Tests.{leb-true, eqb-true, le-leb, eq-eqb}
+use Rattle.std.specs.List.{list_all}
 use Rattle.range.specs.Below.{all_below}
 use Rattle.range.proofs.Tests.{and_left, and_right, all_below_at}
 use Rattle.rules.specs.Shape.{in_shape, phases, carriers, greatest_m}
@@ -69,6 +70,12 @@ module _ (h m : ℕ) (g : List ℕ) where
       at (no l) =
           let b : length g ≤ i = omega arith in
           rw (get_or-eq_default g 0 b) (omega arith)
+
+-- the same as a test of the list
+pub small_list : (g : List ℕ) → list_all (λ gain. leb gain most_gain) g ≡ small_gains g
+unfolding all_below
+small_list [] = refl
+small_list (gain ∷ g) = ap (λ (t : Bool). leb gain most_gain && t) (small_list g)
 
 -- 2^h N as one power
 pub table_size : (h m : ℕ) → phases h * carriers m ≡ 2 ^ (h + m)

@@ -1,7 +1,6 @@
 -- The stages one after the other: specs/SearchTables.antt, Climbing. In order: powers; the numbers of the next table
--- stay small; what the stages answer; the next runs are no longer than the area; no stage is left but the last, or one
--- at least; what the last stage may be given, and what it answers; what one stage may be given, what the stages after
--- it may be given, and what they answer.
+-- stay small; what the stages answer; no stage is left but the last, or one at least; what the last stage may be given,
+-- and what it answers; what one stage may be given, what the stages after it may be given, and what they answer.
 -- Not here: where the runs of one table lie (RunLaws).  Assumes nothing.
 use Prim.Native.Nat.{ℕ, suc, ◌+◌, ◌-◌, ◌*◌, ◌/◌, ◌^◌, ◌≤◌, ◌<◌}
 use native.Mathlib.Nat.{mul-le-mul, mul-one, pow-zero, pow-succ', pow-le-pow_left, le_refl, one-le-pow}
@@ -48,12 +47,6 @@ abbrev pub wanted : ℕ → ℕ → ℕ → ℕ → List ℕ → Standing → �
 wanted q half w l xs st d =
     lead_from l (by_label q (w * q ^ suc d) (climbs q (suc d) w (table_in q half w xs))) (w * q ^ suc d * q) st
 
--- the length of the next runs is no greater than the area
-pub climbing_product : {d q half w l : ℕ} {xs ys : List ℕ} → Climbing d q half w l xs ys → w * q ≤ length xs
-climbing_product {d = d} {q = q} {w = w} p =
-    let some : 1 ≤ q ^ d = one-le-pow d q (omega (arith, p.symbols)) in
-    omega (arith, mul-le-mul (le_refl (2 * q * w)) some, p.first)
-
 -- no stage is left but the last, or one at least
 pub none_left : {q half w l : ℕ} {xs ys : List ℕ} (d : ℕ) → d ≡ 0 → Climbing d q half w l xs ys →
     Climbing 0 q half w l xs ys
@@ -68,23 +61,20 @@ some_left {q = q} {half = half} {w = w} {l = l} {xs = xs} {ys = ys} d n =
 
 module _ (q half w l : ℕ) (xs ys : List ℕ) (p : Climbing 0 q half w l xs ys) where
   -- the last stage
-  climbing_half : half ≡ 1
-  climbing_half = p.halved ∙ pow-zero 2
-
-  pub climbing_last : Runs q 1 w (table_in q 1 w xs) × (l + q * (w * q) ≤ most_labels)
+  pub climbing_last : (half ≡ 1) × (l + q * (w * q) ≤ most_labels)
   climbing_last = (
-    subst (λ (k : ℕ). Runs q k w (table_in q k w xs)) climbing_half p.runs,
+    p.halved ∙ pow-zero 2,
     omega (arith, p.counted, ap (λ (k : ℕ). w * k * q) (pow_one q)),
   )
 
   pub climbing_done : (st r : Standing) →
-      r ≡ lead_from l (by_label q (w * q) (climbed q 1 w (table_in q 1 w xs))) (q * (w * q)) st →
+      r ≡ lead_from l (by_label q (w * q) (climbed q 1 w (table_in q half w xs))) (q * (w * q)) st →
       r ≡ wanted q half w l xs st 0
   unfolding climbs
   climbing_done st r e =
-      let f : ℕ → ℕ = by_label q (w * q) (climbed q 1 w (table_in q 1 w xs)) in
+      let f : ℕ → ℕ = by_label q (w * q) (climbed q 1 w (table_in q half w xs)) in
       let n : q * (w * q) ≡ w * q * q = omega arith in
-      rw (pow_one q, climbing_half) (e ∙ ap (λ (k : ℕ). lead_from l f k st) n)
+      rw (pow_one q) (e ∙ ap (λ (k : ℕ). lead_from l f k st) n)
 
 module _ (e q half w l : ℕ) (xs ys : List ℕ) (p : Climbing (suc e) q half w l xs ys) where
   -- one stage before others

@@ -4,32 +4,48 @@
 #![tactic(auto)]
 
 ghost use Rattle.std.specs.Prelude.{◌≡◌};
-ghost use Rattle.standing.specs.Lead.{better};
 
-#[derive(Clone, Copy)]
+#[derive(Clone, Copy, Debug, PartialEq, Eq)]
 pub struct Standing {
     pub best: u32,
     pub second: u32,
     pub label: u64,
 }
 
-// The standing after one more value, that of a later label.
-pub fn better(st: Standing, value: u32, label: u64) -> Standing
-    ensures { result ≡ better st value label }
-{
-    if value <= st.second {
-        return st;
+impl Standing {
+    ghost use Rattle.standing.specs.Lead.{better, tied_of};
+
+    // The standing before the first value.
+    pub const NOBODY: Standing = Standing {
+        best: 0,
+        second: 0,
+        label: 0,
+    };
+
+    // The standing after one more value, that of a later label.
+    pub fn better(self, value: u32, label: u64) -> Standing
+        ensures { result ≡ better self value label }
+    {
+        if value <= self.second {
+            return self;
+        }
+        if value <= self.best {
+            return Standing {
+                second: value,
+                ..self
+            };
+        }
+        Standing {
+            best: value,
+            second: self.best,
+            label,
+        }
     }
-    if value <= st.best {
-        return Standing {
-            best: st.best,
-            second: value,
-            label: st.label,
-        };
-    }
-    Standing {
-        best: value,
-        second: st.best,
-        label,
+
+    // Whether the second best is as good as the best.
+    pub fn tied(self) -> bool
+        ensures { result ≡ tied_of self }
+    {
+        self.best == self.second
     }
 }

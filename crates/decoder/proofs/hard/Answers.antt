@@ -1,14 +1,13 @@
--- `decoder::hard` meets its contract: it answers what the question refuses, and else what is weighed.
+-- `decoder::hard` meets its contract: where nothing is refused, the word is one of a shape that is decoded.
 -- Assumes nothing.
-use mathlib.Core.Path.{◌≡◌, sym}
-use Rattle.rules.specs.Outcome.{allowed}
-use Rattle.rules.specs.Refusal.{hard_refusal}
+use mathlib.Core.Path.{sym}
 use Rattle.rules.proofs.RefusalLaws.{hard_taken}
 use Rattle.decoder.proofs.hard.Goals as goal
 
-pub gains_of-n-requires : goal.gains_of-n-requires
-gains_of-n-requires c =
-    let free : hard_refusal c.args.h c.args.m c.args.word.now ≡ allowed =
-    sym c.in_ok-hard.ensures in
-    let t = hard_taken _ _ _ free in
-    (t.symbols.shape, t.few)
+pub invariant_of-shape : goal.invariant_of-shape
+invariant_of-shape c = record { in_range = (hard_taken _ _ _ (sym c.in_ok-hard.ensures)).symbols.shape }
+
+pub invariant_of-decode : goal.invariant_of-decode
+invariant_of-decode c =
+    let t = hard_taken _ _ _ (sym c.in_ok-hard.ensures) in
+    record { few = t.few; long = t.symbols.long; below = t.symbols.below }

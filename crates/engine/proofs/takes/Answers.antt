@@ -10,7 +10,7 @@ use Rattle.rules.specs.Shape.{in_shape, phases, carriers}
 use Rattle.rules.proofs.Range.{in_shape_range}
 use Rattle.shape.proofs.Powers.{power_is}
 use Rattle.engine.specs.Search.{accepts}
-use Rattle.engine.proofs.Accepting.{accepts_small, table_size}
+use Rattle.engine.proofs.Accepting.{accepts_small, small_list, table_size}
 use Rattle.engine.proofs.takes.Goals.{After-power, Then-in_shape}
 use Rattle.engine.proofs.takes.Goals as goal
 
@@ -27,7 +27,7 @@ size_is c =
 
 pub returns-then-gains-power : goal.returns-then-gains-power
 returns-then-gains-power c =
-    c.small.ensures
+    c.small.ensures ∙ small_list c.args.gains.now
     ∙ accepts_small _ _ _ (ranged (goal.at.returns-then-gains-power c).Then-in_shape) c.if-h-le-GREATEST_DECODED.true
     (c.if-gains-power.true ∙ size_is (goal.at.returns-then-gains-power c).After-power)
 
