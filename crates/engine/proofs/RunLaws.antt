@@ -1,5 +1,5 @@
--- The runs of a table: specs/SearchTables.antt. In order: no number of a run is too great to be added to another; a
--- gain as a number of the first table; a sum as a number of the next table.
+-- The runs of a table: specs/SearchTables.antt. In order: no sum of two numbers is too great, and no number of a run is
+-- too great to be added to another; a gain as a number of the first table; a sum as a number of the next table.
 -- Not here: the labels of a table (Counting), the stages one after the other (Climbing).  Assumes nothing.
 use Prim.Native.Nat.{ℕ, ◌+◌, ◌*◌, ◌%◌, ◌≤◌, ◌<◌}
 use native.Mathlib.Decide.{dec_lt}
@@ -15,6 +15,9 @@ use Rattle.engine.specs.SearchTables.{most_total, Runs}
 module _ {q half w : ℕ} {xs : List ℕ} (p : Runs q half w xs) where
   half_less : (k : ℕ) → get_or xs k 0 * 2 ≤ most_total
   half_less k = omega (arith, times_least (get_or xs k 0 * 2) half p.halves, p.small k)
+
+  pub runs_sum : (i j : ℕ) → get_or xs i 0 + get_or xs j 0 ≤ most_total
+  runs_sum i j = omega (arith, half_less i, half_less j)
 
   -- a run r of the table, which begins at o: its numbers are no greater than half the greatest
   pub run_half : (r : List ℕ) (o : ℕ) → length r ≡ w → ((i : ℕ) → i < w → get_or r i 0 ≡ get_or xs (o + i) 0) →

@@ -123,16 +123,3 @@ pub fn minus(q: u64, a: u8, b: u8) -> u64
         d % q
     }
 }
-
-// A symbol or a step as a number to count with, and as one to index with. Who calls them need not show that it fits.
-pub fn wide(x: u8) -> u64
-    ensures { result ≡ x }
-{
-    x as u64
-}
-
-pub fn index(x: u8) -> usize
-    ensures { result ≡ x }
-{
-    x as usize
-}
