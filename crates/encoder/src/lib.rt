@@ -173,13 +173,21 @@ fn generator(shape: Shape) -> [[u8; PLACES]; ROWS]
     )
 }
 
-// The row x_r: the digit x_r of each place, x_1 the most significant of m.
+// The row x_r: the digit x_r of each place.
 fn digits(shape: Shape, r: usize) -> [u8; PLACES]
     requires { r ≤ greatest_m }
     ensures { result ≡ list_below (carriers greatest_m) (λ i. digit shape.m i r) }
 {
+    array::from_fn(|i| digit(shape, i, r))
+}
+
+// The digit x_r of place i, x_1 the most significant of m.
+#[tactic(auto, unfolding(rules::specs::Place::digit))]
+fn digit(shape: Shape, i: usize, r: usize) -> u8
+    ensures { result ≡ digit shape.m i r }
+{
     let e = (shape.m as usize).saturating_sub(r);
-    array::from_fn(|i| ((i >> e) % 2) as u8)
+    ((i >> e) % 2) as u8
 }
 
 // The label taken apart, c first: each division by 2^h leaves what stands above.

@@ -1,6 +1,7 @@
 -- A refusal can be read back from what it tells, so what it tells determines it.
 -- In order: reading back, from one list in the order of the table; its law; refusals that tell the same are equal; a
--- refusal handed on; an answer that is given; answers that tell the same are equal, and of these the ones that give nothing.  Assumes nothing.
+-- refusal handed on; an answer that is given; answers that tell the same are equal, and of these the ones that give
+-- nothing.  Assumes nothing.
 use Prim.Native.Nat.{ℕ, ◌-◌}
 use mathlib.Core.Path.{◌≡◌, refl, sym, ◌∙◌, ap}
 use mathlib.Core.List.{List, [], ◌∷◌}

@@ -1,6 +1,6 @@
 -- Laws of tests one behind the other: code asks test after test, and the rules nest them. In order: a test that refuses
--- ends what it stands before, and one that refuses nothing leaves it; the same of a search; a test behind others, as one
--- outcome.
+-- ends what it stands before, and one that refuses nothing leaves it; the same of a search; a test behind others, as
+-- one outcome.
 -- Assumes nothing.
 use Prim.Native.Nat.{ℕ}
 use mathlib.Core.Path.{◌≡◌, refl, sym, ◌∙◌, ap}

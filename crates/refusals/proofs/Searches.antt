@@ -42,7 +42,8 @@ module _ {X : Type 0} (p : X → Bool) (xs : List X) (d : X) where
           let none_left : length xs ≤ position_or_len p xs = omega (arith, l) in
           let is : position p xs ≡ None = rw (le-ltb _ _ none_left) in
           ap search_told is
-          ∙ sym (first_below_none (length xs) passes_at (λ i h. fails_before_first p xs i d (omega (arith, h, none_left))))
+          ∙ sym
+          (first_below_none (length xs) passes_at (λ i h. fails_before_first p xs i d (omega (arith, h, none_left))))
 
 module _ {X : Type 0} (p : X → Bool) (xs : List X) (d : X) (n : ℕ) (h : n ≤ length xs) where
   pub position_front : search_told (position p (take n xs)) ≡ first_below n (λ i. p (get_or xs i d))

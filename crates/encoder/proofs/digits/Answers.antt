@@ -6,5 +6,4 @@ use Rattle.encoder.proofs.FromFn.{made_is}
 use Rattle.encoder.proofs.digits.Goals as goal
 
 pub returns : goal.returns
-unfolding digit
 returns c = made_is _ (λ i. digit c.args.shape.m i c.args.r) _ (λ i y u k. search rules) 0 _ _ c.from_fn.ensures.items
