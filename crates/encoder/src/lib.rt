@@ -33,6 +33,7 @@ pub fn encode(h: u32, m: u32, message: MessageNumber, out: &mut [u8]) -> Result<
 }
 
 // Writes the N symbols of the partner of the message's word to out. Refuses as encode does.
+// Kept: two of 01's calls by name, and one function, `send`, of both.
 pub fn partner(h: u32, m: u32, message: MessageNumber, out: &mut [u8]) -> Result<(), Refusal>
     ensures { Sent h m message.0 (partner_of h m message.0) out.old result out.new }
 {

@@ -30,6 +30,7 @@ const MOST_GAIN: u32 = 1 << 25;
 // The standing after all labels of the shape, by the totals of their words in a table of gains: for each symbol N
 // gains, one for each place. Nobody leads where the shape is not of two or four phases, the table is not 2^h N long, or
 // a gain is above the greatest.
+// Kept: nobody and no Option, since the promise `searched` has it, and no caller can be refused (D-31).
 pub fn search(h: u32, m: u32, gains: &[u32]) -> Standing
     ensures { result ≡ searched h m gains.now }
 {
@@ -59,7 +60,7 @@ fn small(gains: &[u32]) -> bool
 }
 
 // x modulo n, for an x below 2 n.
-// Kept: a division takes so long beside the addition that it serves that decoding takes a third longer.
+// Kept: a division takes so long beside the addition that it serves that decoding takes up to a third longer.
 fn wrap(n: usize, x: usize) -> usize
     requires { x < n + n }
     ensures { result ≡ x % n }

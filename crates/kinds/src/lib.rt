@@ -23,6 +23,7 @@ pub struct PathNumber(pub u32);
 pub struct MessageNumber(pub u64);
 
 // Which of the two words that the pair check is given, counted from 1.
+// Kept: an enum would take fewer numbers than what the methods of a refusal say is said of.
 #[derive(Clone, Copy, Debug, PartialEq, Eq, Hash)]
 pub struct Which(pub u32);
 

@@ -38,15 +38,17 @@ pub(super) fn carriers(m: u32) -> Result<(), Refusal>
 pub(super) fn length(n: usize, m: u32) -> Result<(), Refusal>
     ensures { judged_told result ≡ refuse 2 (bad_length n (carriers m)) allowed }
 {
-    refuse(!is_power(n as u64, m as u64), Refusal::Length)
+    refuse(!is_power(n as u64, u64::from(m)), Refusal::Length)
 }
 
 // 2, of two words.
+// Kept: it and the test of two areas differ in the test alone, but one function of both would take it as a closure, and
+// its clause would speak of what that gives.
 pub(super) fn lengths(n: usize, k: usize, m: u32) -> Result<(), Refusal>
     ensures { judged_told result ≡ refuse 2 (bad_length n (carriers m) || bad_length k (carriers m)) allowed }
 {
     refuse(
-        !is_power(n as u64, m as u64) || !is_power(k as u64, m as u64),
+        !is_power(n as u64, u64::from(m)) || !is_power(k as u64, u64::from(m)),
         Refusal::Length,
     )
 }
@@ -56,7 +58,7 @@ pub(super) fn soft_length(n: usize, h: u32, m: u32) -> Result<(), Refusal>
     ensures { judged_told result ≡ refuse 2 (bad_length n (soft_length h m)) allowed }
 {
     let more = if h == 1 { 0 } else { 1 };
-    refuse(!is_power(n as u64, m as u64 + more), Refusal::Length)
+    refuse(!is_power(n as u64, u64::from(m) + more), Refusal::Length)
 }
 
 // 2: an area, of n entries or of k, is shorter than N.
@@ -64,7 +66,7 @@ pub(super) fn areas(n: usize, k: usize, m: u32) -> Result<(), Refusal>
     ensures { judged_told result ≡ refuse 2 (short_area n m || short_area k m) allowed }
 {
     refuse(
-        !reaches(n as u64, m as u64) || !reaches(k as u64, m as u64),
+        !reaches(n as u64, u64::from(m)) || !reaches(k as u64, u64::from(m)),
         Refusal::Length,
     )
 }
@@ -77,6 +79,7 @@ pub(super) fn symbols(h: u32, word: &[u8]) -> Result<(), Refusal>
 }
 
 // 3, in a word of the pair check.
+// Kept: it and the other two searches differ in what they make of a place; as a closure that is no plainer.
 pub(super) fn symbols_in(which: Which, h: u32, word: &[u8]) -> Result<(), Refusal>
     ensures { judged_told result ≡ refuse_at 3 (bad_symbol h word.now) (which.0 ∷ []) allowed }
 {
@@ -87,7 +90,7 @@ pub(super) fn symbols_in(which: Which, h: u32, word: &[u8]) -> Result<(), Refusa
 pub(super) fn message(h: u32, m: u32, message: MessageNumber) -> Result<(), Refusal>
     ensures { judged_told result ≡ refuse 4 (bad_message h m message.0) allowed }
 {
-    let bits = shape::path_bits(m) as u64 + h as u64 * (m as u64 + 1);
+    let bits = u64::from(shape::path_bits(m)) + u64::from(h) * (u64::from(m) + 1);
     refuse(reaches(message.0, bits), Refusal::Message)
 }
 
@@ -155,7 +158,7 @@ fn first_outside(entries: &[i32]) -> Option<usize>
 fn looked_at(n: usize, m: u32) -> usize
     ensures { result ≡ min n (carriers m) }
 {
-    if reaches(n as u64, m as u64) {
+    if reaches(n as u64, u64::from(m)) {
         shape::power(m) as usize
     } else {
         n

@@ -74,6 +74,7 @@ pub fn in_m(m: u32) -> bool
 }
 
 // 2^e where that fits 64 bits, else 0.
+// Kept: 0 for what there is not, here and in `path_bits`, is what the promises say of every number (D-11).
 pub fn power(e: u32) -> u64
     ensures { result ≡ cond (ltb e 64) (2 ^ e) 0 }
 {

@@ -3,6 +3,7 @@
 // An answer leaves in pieces. The result is the refusal's number in 01's table, 0 where nothing is refused. What a call
 // gives goes into cells, and so do the numbers that a refusal carries: its first bad place and, of the pair check,
 // which word. A cell that an answer has nothing for stays as it was.
+// Kept, as C links them: a number for a refusal, cells, and a function for each call, also where two are alike.
 // Each call hands on to one of the crates below and takes its answer apart. Contracts cite specs/Out.antt and
 // Crossing.antt.
 #![tactic(auto)]
@@ -203,6 +204,7 @@ fn locate(why: Refusal, place: &mut usize)
 }
 
 // The number of the word that a refusal speaks of, where it speaks of one, into the cell.
+// Kept: it and `locate` differ in the type of their cells, which C has them be.
 fn name(why: Refusal, which: &mut u32)
     ensures { which.new ≡ get_or (refusal_carries why) 1 which.old }
 {

@@ -13,6 +13,7 @@ use kinds::PathNumber;
 use shape::STEPS;
 
 // The steps of path n of m, 0 after the m-th, where m is in range and the path in use; else zeros.
+// Kept: zeros and no Option, since the promise `steps_of` has them, and no caller can be refused (D-11).
 pub fn steps(m: u32, n: PathNumber) -> [u8; STEPS]
     ensures { result ≡ steps_of m n.0 }
 {

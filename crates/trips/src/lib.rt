@@ -23,6 +23,8 @@ pub fn read_back(
 
 // Encodes a message and decodes the word: the message comes back at distance 0, not tied. Eight phases are refused 6
 // by the decoder. Where encode refuses, the slice stays as it was, and is decoded so.
+// Kept: it and `read_back` call one function after the other; with a closure for the second, the promise would speak of
+// what that gives.
 pub fn hard_back(h: u32, m: u32, message: MessageNumber, word: &mut [u8]) -> Matched
     ensures { HardBack h m message.0 word.old result word.new }
 {
