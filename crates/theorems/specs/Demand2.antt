@@ -4,8 +4,8 @@
 -- A claim about a call takes what the call ensures as its premise. `Symbols h m w` says that w is N symbols in range.
 -- Defines:  Demand2    the claims
 -- Proved in proofs/Proved.antt.  Assumes nothing: these are definitions.
-use Rattle.std.specs.Prelude.{ℕ, suc, ◌+◌, ◌-◌, ◌*◌, ◌/◌, ◌%◌, ◌^◌, ◌≤◌, ◌<◌, ◌≡◌, true, false, Ok, ◌≢◌, ◌↔◌, ℤ, pos, ◌+ℤ◌}
-use Rattle.std.specs.Prelude.{length, get_or}
+use Rattle.std.specs.Prelude.{ℕ, suc, ◌+◌, ◌-◌, ◌*◌, ◌/◌, ◌%◌, ◌^◌, ◌≤◌, ◌<◌, ◌≡◌, true, false, Ok, ◌≢◌, ◌↔◌}
+use Rattle.std.specs.Prelude.{ℤ, pos, ◌+ℤ◌, length, get_or}
 use mathlib.Core.List.{List, [], Memᴰ}
 use Rattle.range.specs.Below.{sum_below, list_below, ◌! }
 use Rattle.rules.specs.Shape.{in_m, in_shape, phases, half_turn, carriers, paths_in_use, messages}
