@@ -31,6 +31,7 @@ pub fn soft(h: u32, m: u32, values: &[i16]) -> Heard
 // The message of the word nearest to the symbols, its distance, and whether another word has it too. Refuses 1 a shape
 // out of range, 6 eight phases, 2 a word that is not N long, 3 a symbol that is 2^h or more, with the first such place.
 // The word is only read.
+// Kept: two of 01's calls by name, and one function, `decode`, of both.
 pub fn hard(h: u32, m: u32, word: &[u8]) -> Matched
     ensures { Matches h m word.now result }
 {

@@ -98,6 +98,7 @@ fn tell_nearest<W: Write>(out: &mut W, word: &[u8]) -> io::Result<()> {
 }
 
 // Decodes soft values.
+// Kept: it and `tell_nearest` say a sentence each, over one `tell_found`.
 fn tell_loudest<W: Write>(out: &mut W, y: &[i16]) -> io::Result<()> {
     write!(out, "soft decoding: ")?;
     tell_found(out, "with correlation", decoder::soft(H, M, y))

@@ -23,7 +23,7 @@ pub struct PathNumber(pub u32);
 pub struct MessageNumber(pub u64);
 
 // Which of the two words that the pair check is given, counted from 1.
-// Kept: an enum would take fewer numbers than what the methods of a refusal say is said of.
+// Kept: the methods of a refusal promise of every number in it, and an enum would take fewer.
 #[derive(Clone, Copy, Debug, PartialEq, Eq, Hash)]
 pub struct Which(pub u32);
 
@@ -49,6 +49,7 @@ pub enum Refusal {
 
 impl Refusal {
     // Its number in 01's table.
+    // Kept: C gets the number, and the promises speak of it.
     pub fn number(self) -> u32
         ensures { result ≡ refusal_number self }
     {

@@ -75,6 +75,7 @@ fn rounds(m: u32, n: usize, first: &mut [i32], second: &mut [i32])
 }
 
 // One stage. Its stride is a const parameter of what it calls, so that the compiler knows how long the loops are.
+// Kept: with a stride known only when it runs a transform takes twice as long (D-22).
 fn stage(s: usize, n: usize, from: &[i32], to: &mut [i32])
     requires stride { Stride s }
     requires readable { Readable s n from.now }
