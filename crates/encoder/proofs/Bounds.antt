@@ -10,8 +10,8 @@ use Rattle.range.proofs.Sums.{sum_below_le}
 use Rattle.rules.specs.Shape.{greatest_m, carriers, greatest_h, phases, half_turn}
 use Rattle.rules.proofs.Range.{InRange, in_shape_range, phases_by_two, phases_most}
 use Rattle.encoder.specs.declared.Form.{Form}
-use Rattle.encoder.specs.Arrays.{cell}
-use Rattle.encoder.specs.Forms.{term_at, step_at, link_at, linear_of, links_of}
+use Rattle.encoder.specs.Arrays.{cell, linear_of, links_of}
+use Rattle.encoder.specs.Forms.{term_at, step_at, link_at, linear_in, links_in}
 
 -- the greatest term, sum of terms and sum of links of a shape in range
 abbrev pub most_term : ℕ
@@ -41,9 +41,9 @@ module _ (f : Form) (i : ℕ) (inside : i < carriers greatest_m) where
   pub terms_le : (r : ℕ) → r ≤ f.shape.m + 1 → sum_below r (term_at f i) ≤ r * most_term
   terms_le r h = sum_below_le r most_term (term_at f i) (λ k l. term_le k (omega arith))
 
-  pub linear_of_le : linear_of f i ≤ most_linear
+  pub linear_in_le : linear_in f i ≤ most_linear
   unfolding linear_of
-  linear_of_le = omega (arith, terms_le (f.shape.m + 1) (le_refl (f.shape.m + 1)), (range_of f).m_most)
+  linear_in_le = omega (arith, terms_le (f.shape.m + 1) (le_refl (f.shape.m + 1)), (range_of f).m_most)
 
   pub step_le : (k : ℕ) → k < f.shape.m → step_at f i k ≤ 1
   step_le k h = f.digits (get_or f.steps k 0) i (f.rows k h) inside
@@ -56,9 +56,9 @@ module _ (f : Form) (i : ℕ) (inside : i < carriers greatest_m) where
   pub links_le : (n : ℕ) → n ≤ f.shape.m - 1 → sum_below n (link_at f i) ≤ n * 1
   links_le n h = sum_below_le n 1 (link_at f i) (λ k l. link_le k (omega arith))
 
-  pub links_of_le : links_of f i ≤ most_links
+  pub links_in_le : links_in f i ≤ most_links
   unfolding links_of
-  links_of_le = omega (arith, links_le (f.shape.m - 1) (le_refl (f.shape.m - 1)), (range_of f).m_most)
+  links_in_le = omega (arith, links_le (f.shape.m - 1) (le_refl (f.shape.m - 1)), (range_of f).m_most)
 
   pub first_le : step_at f i 0 ≤ 1
   first_le = step_le 0 (omega (arith, (range_of f).m_least))

@@ -1,6 +1,6 @@
--- What a form adds up at a place is the formula of 01: generator rows, path steps and coefficients, modulo 2^h.
--- In order: links as a sum; the steps as code holds them, and their digits; a coefficient is small; a form of a label,
--- each part of its symbols, its symbols; the two lifts.  Assumes nothing.
+-- What the encoder combines at a place is the formula of 01: generator rows, path steps and coefficients, modulo 2^h.
+-- In order: links as a sum; the steps as code holds them, and their digits; each part of the symbol; the symbol; a
+-- coefficient is small; a form of a label, and its symbols; the two lifts.  Assumes nothing.
 use Prim.Native.Nat.{ℕ, zero, suc, ◌+◌, ◌-◌, ◌*◌, ◌%◌, ◌≤◌, ◌<◌}
 use native.Mathlib.Nat.{lt_of_lt_of_le, suc-ne-zero, suc_inj, one-mul}
 use native.Mathlib.Numerals.{add-one}
@@ -17,7 +17,7 @@ use Rattle.rules.specs.Place.{digit, generator_at}
 use Rattle.rules.specs.Path.{IsPath, path_at, head_of}
 use Rattle.rules.specs.Label.{labels, label_path, label_of, row_coefficient}
 use Rattle.rules.specs.Word.{links, word_at, partner_at, word_of, partner_of}
-use Rattle.rules.proofs.Range.{InRange, range_in_m, carriers_most}
+use Rattle.rules.proofs.Range.{InRange, range_in_m, phases_by_two, carriers_most}
 use Rattle.paths.proofs.Members.{is_path_in}
 use Rattle.words.proofs.Labels.{coefficient_lt, constant_lt}
 use Rattle.words.proofs.Forms.{form_at_rows, partner_at_form}
@@ -25,8 +25,8 @@ use Rattle.words.proofs.Used.{label_path_is_path}
 use Rattle.words.proofs.Partners.{head_of_at}
 use Rattle.steps.specs.PathSteps.{path_row}
 use Rattle.encoder.specs.declared.Form.{Form}
-use Rattle.encoder.specs.Arrays.{generator_rows, cell, lifted_at}
-use Rattle.encoder.specs.Forms.{step_at, linear_of, links_of, symbol_of}
+use Rattle.encoder.specs.Arrays.{generator_rows, cell, linear_of, links_of, symbol_of, lifted_at}
+use Rattle.encoder.specs.Forms.{symbol_in}
 use Rattle.encoder.proofs.Bounds.{range_of}
 use Rattle.encoder.proofs.Matrix.{generator_at_digit, generator_rows_at}
 
@@ -77,6 +77,30 @@ module _ (h m l : ℕ) (range : InRange h m) (used : l < labels h m) where
         ∙ generator_rows_at m (get_or path k 0) i (omega (arith, (step_in k h₁).1, range.m_most)) in_row
         ∙ generator_at_digit m (get_or path k 0) i (step_in k h₁).0
 
+    links_is : links_of (generator_rows m) (path_row m (label_path h m l)) m i ≡ links (digit m i) path
+    unfolding links_of
+    links_is =
+        sum_below_cong (m - 1) _ (λ k. digit m i (get_or path k 0) * digit m i (get_or path (k + 1) 0))
+        (λ k h₁. ap₂ (λ (x y : ℕ). x * y) (step_digit k (omega arith)) (step_digit (k + 1) (omega arith)))
+        ∙ sym (links_sum (digit m i) (m - 1) path (omega (arith, path_is.long, range.m_least)))
+
+    first_is : cell (generator_rows m) (get_or (path_row m (label_path h m l)) 0 0) i ≡ digit m i (head_of path)
+    first_is = step_digit 0 (omega (arith, range.m_least)) ∙ ap (digit m i) (sym (head_of_at path))
+
+    module _ (c : List ℕ) (rows : (r : ℕ) → r ≤ m → get_or c r 0 ≡ row_coefficient h m l r) where
+      linear_is : linear_of (generator_rows m) c m i
+          ≡ sum_below (m + 1) (λ r. row_coefficient h m l r * generator_at m r i)
+      unfolding linear_of
+      linear_is =
+          sum_below_cong (m + 1) _ (λ r. row_coefficient h m l r * generator_at m r i)
+          (λ r h₁. ap₂ (λ (x y : ℕ). x * y) (rows r (omega arith))
+          (generator_rows_at m r i (omega (arith, range.m_most)) in_row))
+
+      pub symbol_is : (s : ℕ) →
+          symbol_of (generator_rows m) (path_row m (label_path h m l)) c m (phases h) s i ≡ lifted_at h m l s i
+      unfolding symbol_of lifted_at
+      symbol_is s = rw (form_at_rows h m l i, phases_by_two h range.h_least, links_is, linear_is, first_is)
+
 pub row_coefficient_lt : (h m l r : ℕ) → row_coefficient h m l r < phases h
 unfolding row_coefficient
 row_coefficient_lt h m l zero = constant_lt h l
@@ -91,52 +115,23 @@ pub record IsFormOf (l lift : ℕ) (f : Form) : Type 0 where
   pub turned : f.lift ≡ lift * half_turn f.shape.h
 
 module _ (l lift : ℕ) (f : Form) (of : IsFormOf l lift f) where
-  abbrev h : ℕ
-  h = f.shape.h
+  abbrev lifted : ℕ → ℕ → ℕ
+  lifted = lifted_at f.shape.h f.shape.m l
 
-  abbrev m : ℕ
-  m = f.shape.m
-
-  abbrev range : InRange h m
-  range = range_of f
-
-  abbrev own : List ℕ
-  own = path h m l range of.used
-
-  module _ (i : ℕ) (inside : i < carriers m) where
-    step_is : (k : ℕ) → k < m → step_at f i k ≡ digit m i (get_or own k 0)
-    step_is k h₁ =
-        ap₂ (λ (g : List (List ℕ)) (p : List ℕ). cell g (get_or p k 0) i) of.generated of.walked
-        ∙ step_digit h m l range of.used i inside k h₁
-
-    links_is : links_of f i ≡ links (digit m i) own
-    unfolding links_of
-    links_is =
-        sum_below_cong (m - 1) _ (λ k. digit m i (get_or own k 0) * digit m i (get_or own (k + 1) 0))
-        (λ k h₁. ap₂ (λ (x y : ℕ). x * y) (step_is k (omega arith)) (step_is (k + 1) (omega arith)))
-        ∙ sym (links_sum (digit m i) (m - 1) own (omega (arith, (path_is h m l range of.used).long, range.m_least)))
-
-    linear_is : linear_of f i ≡ sum_below (m + 1) (λ r. row_coefficient h m l r * generator_at m r i)
-    unfolding linear_of
-    linear_is =
-        sum_below_cong (m + 1) _ (λ r. row_coefficient h m l r * generator_at m r i)
-        (λ r h₁. ap₂ (λ (x y : ℕ). x * y) (of.split r (omega arith))
-        (ap (λ (g : List (List ℕ)). cell g r i) of.generated
-        ∙ generator_rows_at m r i (omega (arith, range.m_most)) (in_row h m l range of.used i inside)))
-
-    first_is : step_at f i 0 ≡ digit m i (head_of own)
-    first_is = step_is 0 (omega (arith, range.m_least)) ∙ ap (digit m i) (sym (head_of_at own))
-
-    symbol_is : symbol_of f i ≡ lifted_at h m l f.lift i
-    unfolding symbol_of lifted_at
-    symbol_is = rw (form_at_rows h m l i, links_is, linear_is, first_is)
+  -- place by place, by the law of the arrays
+  symbol_in_is : (i : ℕ) → i < carriers f.shape.m → symbol_in f i ≡ lifted f.lift i
+  unfolding symbol_in
+  symbol_in_is i inside =
+      ap₂ (λ (g : List (List ℕ)) (p : List ℕ). symbol_of g p f.coefficients f.shape.m (phases f.shape.h) f.lift i)
+      of.generated of.walked
+      ∙ symbol_is f.shape.h f.shape.m l (range_of f) of.used i inside f.coefficients of.split f.lift
 
   -- so its symbols are those of the lifted word
-  pub symbols_are : (n : ℕ) → n ≡ carriers m →
-      list_below n (symbol_of f) ≡ list_below (carriers m) (lifted_at h m l (lift * half_turn h))
+  pub symbols_are : (n : ℕ) → n ≡ carriers f.shape.m →
+      list_below n (symbol_in f) ≡ list_below (carriers f.shape.m) (lifted (lift * half_turn f.shape.h))
   symbols_are n e =
-      rw e (list_below_cong (carriers m) (symbol_of f) (lifted_at h m l f.lift) symbol_is)
-      ∙ ap (λ (s : ℕ). list_below (carriers m) (lifted_at h m l s)) of.turned
+      rw e (list_below_cong (carriers f.shape.m) (symbol_in f) (lifted f.lift) symbol_in_is)
+      ∙ ap (λ (s : ℕ). list_below (carriers f.shape.m) (lifted s)) of.turned
 
 -- the two lifts: the word and its partner
 lifted_at_zero : (h m l i : ℕ) → lifted_at h m l (0 * half_turn h) i ≡ word_at h m l i

@@ -98,12 +98,12 @@ struct Column {
 }
 
 impl Form {
-    ghost use Rattle.encoder.specs.Forms.{linear_of, links_of, symbol_of};
+    ghost use Rattle.encoder.specs.Forms.{linear_in, links_in, symbol_in};
 
     // Writes the symbol of each place of out.
     fn write(self, out: &mut [u8])
         requires { length out.old ≤ carriers greatest_m }
-        ensures { out.new ≡ list_below (length out.old) (symbol_of self) }
+        ensures { out.new ≡ list_below (length out.old) (symbol_in self) }
     {
         for (place, symbol) in out.iter_mut().enumerate() {
             *symbol = self.symbol(Column { place });
@@ -113,7 +113,7 @@ impl Form {
     // The symbol at a place: the links times half the phases, the rows times their coefficients, and the first step's
     // row times the lift.
     fn symbol(&self, at: Column) -> u8
-        ensures { result ≡ symbol_of self.now at.place }
+        ensures { result ≡ symbol_in self.now at.place }
     {
         let half = self.shape.half_turn() as u32;
         let q = self.shape.phases() as u32;
@@ -125,7 +125,7 @@ impl Form {
 
     // The sum over the rows of the generator of coefficient times digit.
     fn linear(&self, at: Column) -> u32
-        ensures { result ≡ linear_of self.now at.place }
+        ensures { result ≡ linear_in self.now at.place }
     {
         let n = self.shape.m as usize + 1;
         let mut sum = 0;
@@ -137,7 +137,7 @@ impl Form {
 
     // The sum over the links of the path of digit times digit.
     fn links(&self, at: Column) -> u32
-        ensures { result ≡ links_of self.now at.place }
+        ensures { result ≡ links_in self.now at.place }
     {
         let n = self.shape.m as usize;
         let mut sum = 0;

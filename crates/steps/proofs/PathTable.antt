@@ -25,19 +25,10 @@ use Rattle.paths.proofs.Members.{is_path_in}
 use Rattle.paths.proofs.Number.{used_is_path}
 use Rattle.steps.specs.PathSteps.{path_row, in_use, steps_of, step_in, unpacked}
 
-pub record InUse (m n : ℕ) : Type 0 where
-  pub least : 2 ≤ m
-  pub most : m ≤ greatest_m
-  pub used : n < paths_in_use m
-
-pub in_use_range : (m n : ℕ) → in_use m n ≡ true → InUse m n
+pub in_use_range : (m n : ℕ) → in_use m n ≡ true → (2 ≤ m) × (m ≤ greatest_m) × (n < paths_in_use m)
 in_use_range m n e =
     let r = in_m_range m (and_left (in_m m) (ltb n (paths_in_use m)) e) in
-    record {
-      least = r.0;
-      most = r.1;
-      used = ltb-true n (paths_in_use m) (and_right (in_m m) (ltb n (paths_in_use m)) e);
-    }
+    (r.0, r.1, ltb-true n (paths_in_use m) (and_right (in_m m) (ltb n (paths_in_use m)) e))
 
 pub steps_of_unused : (m n : ℕ) → in_use m n ≡ false → replicate greatest_m 0 ≡ steps_of m n
 unfolding steps_of
@@ -90,43 +81,37 @@ table = rows_below (greatest_m - 1) numbers_from_2
 unfoldable pub starts : List ℕ
 starts = list_below (greatest_m - 1) (λ j. sum_below j in_use_from_2)
 
-module _ (m n : ℕ) (u : InUse m n) where
+module _ (m n : ℕ) (least : 2 ≤ m) (most : m ≤ greatest_m) (used : n < paths_in_use m) where
   back : m - 2 + 2 ≡ m
-  back = omega (arith, u.least)
-
-  listed : m - 2 < greatest_m - 1
-  listed = omega (arith, u.least, u.most)
+  back = omega arith
 
   starts_at : get_or starts (m - 2) 0 ≡ sum_below (m - 2) in_use_from_2
   unfolding starts
-  starts_at =
-      list_below_at (greatest_m - 1) (λ j. sum_below j in_use_from_2) (m - 2) 0 listed
+  starts_at = list_below_at (greatest_m - 1) (λ j. sum_below j in_use_from_2) (m - 2) 0 (omega arith)
 
   pub start_lt : get_or starts (m - 2) 0 + n < sum_below (greatest_m - 1) in_use_from_2
-  start_lt =
-      rw starts_at
-      (sum_below_lt (greatest_m - 1) in_use_from_2 (m - 2) n listed (rw back u.used))
+  start_lt = rw starts_at (sum_below_lt (greatest_m - 1) in_use_from_2 (m - 2) n (omega arith) (rw back used))
 
   table_at : get_or table (get_or starts (m - 2) 0 + n) 0 ≡ packed 0 (path_at m n)
   unfolding table
   table_at =
       rw starts_at
       (rows_below_at (greatest_m - 1) numbers_from_2 in_use_from_2
-      (λ j. length_list_below (in_use_from_2 j) (λ k. packed 0 (path_at (j + 2) k))) (m - 2) n 0 listed
-      (rw back u.used)
-      ∙ list_below_at (in_use_from_2 (m - 2)) (λ k. packed 0 (path_at (m - 2 + 2) k)) n 0 (rw back u.used)
+      (λ j. length_list_below (in_use_from_2 j) (λ k. packed 0 (path_at (j + 2) k))) (m - 2) n 0 (omega arith)
+      (rw back used)
+      ∙ list_below_at (in_use_from_2 (m - 2)) (λ k. packed 0 (path_at (m - 2 + 2) k)) n 0 (rw back used)
       ∙ ap (λ (k : ℕ). packed 0 (path_at k n)) back)
 
   pub steps_of_used : steps_of m n ≡ path_row m n
   unfolding steps_of
-  steps_of_used = simp (le-leb 2 m u.least, le-leb m greatest_m u.most, lt-ltb n (paths_in_use m) u.used)
+  steps_of_used = simp (le-leb 2 m least, le-leb m greatest_m most, lt-ltb n (paths_in_use m) used)
 
   path_is : IsPath m (path_at m n)
-  path_is = used_is_path m n (in_m_of m u.least u.most) u.used
+  path_is = used_is_path m n (in_m_of m least most) used
 
   -- the steps are digits to base 8, since no m in range is above 7
   steps_digits : Digits (path_at m n)
-  steps_digits i h = omega (arith, (is_path_in m (path_at m n) path_is i h).1, u.most)
+  steps_digits i h = omega (arith, (is_path_in m (path_at m n) path_is i h).1)
 
   step_at : (k : ℕ) → k < m → step_in m (packed 0 (path_at m n)) k ≡ get_or (path_at m n) k 0
   step_at k h =

@@ -1,16 +1,16 @@
 -- `encoder::fill` meets its contract: the form holds the generator, the path's steps and the label's coefficients.
 -- In order: the steps; the goals.  Assumes nothing.
-use Prim.Native.Nat.{ℕ, ◌*◌, ◌≤◌}
+use Prim.Native.Nat.{ℕ, ◌*◌, ◌≤◌, ◌<◌}
 use native.Mathlib.Nat.{mul-le-mul}
 use native.Mathlib.Omega.{arith}
 use mathlib.Core.Path.{◌≡◌, sym, ◌∙◌, ap, subst}
 use mathlib.Core.List.{List}
 use lib.ListN.{get_or}
-use Rattle.rules.specs.Shape.{greatest_h, half_turn}
+use Rattle.rules.specs.Shape.{greatest_h, half_turn, paths_in_use}
 use Rattle.rules.specs.Label.{label_path}
 use Rattle.rules.proofs.Range.{InRange, in_shape_range, phases_most, phases_by_two, carriers_most}
 use Rattle.steps.specs.PathSteps.{path_row}
-use Rattle.steps.proofs.PathTable.{InUse, steps_of_used}
+use Rattle.steps.proofs.PathTable.{steps_of_used}
 use Rattle.words.proofs.Labels.{label_path_lt}
 use Rattle.encoder.specs.Arrays.{cell}
 use Rattle.encoder.proofs.Matrix.{generator_rows_le}
@@ -22,20 +22,16 @@ module _ (c : After-steps-steps) where
   range : InRange c.args.shape.h c.args.shape.m
   range = in_shape_range c.args.shape.h c.args.shape.m c.args.shape.in_range
 
-  path_used : InUse c.args.shape.m c.split.result.path.0
-  path_used = record {
-    least = range.m_least;
-    most = range.m_most;
-    used = omega (
-      arith,
-      c.split.ensures.path,
-      label_path_lt c.args.shape.h c.args.shape.m c.args.label c.requires.label_bound,
-    );
-  }
+  path_used : c.split.result.path.0 < paths_in_use c.args.shape.m
+  path_used = omega (
+    arith,
+    c.split.ensures.path,
+    label_path_lt c.args.shape.h c.args.shape.m c.args.label c.requires.label_bound,
+  )
 
   walked : c.steps-steps.result ≡ path_row c.args.shape.m (label_path c.args.shape.h c.args.shape.m c.args.label)
   walked =
-      c.steps-steps.ensures ∙ steps_of_used _ _ path_used
+      c.steps-steps.ensures ∙ steps_of_used _ _ range.m_least range.m_most path_used
       ∙ ap (path_row c.args.shape.m) c.split.ensures.path
 
 pub invariant_of-form : goal.invariant_of-form

@@ -14,8 +14,12 @@ returns-then-not-in_use c =
 
 pub bounds-first : goal.bounds-first
 unfolding list_below path_bits starts sum_below
-bounds-first c = start_lt _ _ (in_use_range _ _ (sym c.in_use.ensures ∙ c.if-not-in_use.false))
+bounds-first c =
+    let u = in_use_range _ _ (sym c.in_use.ensures ∙ c.if-not-in_use.false) in
+    start_lt _ _ u.0 u.1 u.2
 
 pub returns : goal.returns
 unfolding flat_map keep list_below orders packed path_at path_bits paths rows_below starts sum_below table up_to without
-returns c = c.unpack.ensures ∙ table_steps _ _ (in_use_range _ _ (sym c.in_use.ensures ∙ c.if-not-in_use.false))
+returns c =
+    let u = in_use_range _ _ (sym c.in_use.ensures ∙ c.if-not-in_use.false) in
+    c.unpack.ensures ∙ table_steps _ _ u.0 u.1 u.2

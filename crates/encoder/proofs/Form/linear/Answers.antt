@@ -13,7 +13,8 @@ use Rattle.range.specs.Below.{sum_below}
 use Rattle.range.proofs.Sums.{sum_below_turn}
 use Rattle.rules.specs.Shape.{greatest_m}
 use Rattle.encoder.specs.declared.Form.{Form}
-use Rattle.encoder.specs.Forms.{term_at, linear_of}
+use Rattle.encoder.specs.Arrays.{linear_of}
+use Rattle.encoder.specs.Forms.{term_at}
 use Rattle.encoder.proofs.Bounds.{range_of, term_le, terms_le, most_term, most_linear}
 use Rattle.encoder.proofs.Form.linear.Goals.{After-from}
 use Rattle.encoder.proofs.Form.linear.Goals as goal

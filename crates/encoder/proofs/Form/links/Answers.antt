@@ -15,8 +15,8 @@ use Rattle.range.specs.Below.{sum_below}
 use Rattle.range.proofs.Sums.{sum_below_turn}
 use Rattle.rules.specs.Shape.{greatest_m}
 use Rattle.encoder.specs.declared.Form.{Form}
-use Rattle.encoder.specs.Arrays.{cell}
-use Rattle.encoder.specs.Forms.{step_at, link_at, links_of}
+use Rattle.encoder.specs.Arrays.{cell, links_of}
+use Rattle.encoder.specs.Forms.{step_at, link_at}
 use Rattle.encoder.proofs.Bounds.{range_of, link_le, links_le, most_links}
 use Rattle.encoder.proofs.Form.links.Invariants.{path, gone}
 use Rattle.encoder.proofs.Form.links.Goals.{In-Some}

@@ -4,8 +4,11 @@ use Prim.Native.Nat.{◌*◌, ◌≤◌}
 use native.Mathlib.Nat.{mul-le-mul}
 use native.Mathlib.Omega.{arith}
 use Rattle.rules.specs.Shape.{greatest_h, half_turn}
-use Rattle.encoder.specs.Forms.{symbol_of}
-use Rattle.encoder.proofs.Bounds.{half_turn_most, linear_of_le, links_of_le, first_le, most_linear, most_links}
+use Rattle.rules.proofs.Range.{phases_by_two}
+use Rattle.encoder.specs.Arrays.{symbol_of}
+use Rattle.encoder.specs.Forms.{symbol_in}
+use Rattle.encoder.proofs.Bounds.{range_of, half_turn_most, linear_in_le, links_in_le, first_le}
+use Rattle.encoder.proofs.Bounds.{most_linear, most_links}
 use Rattle.encoder.proofs.Form.symbol.Goals.{After-digit-first}
 use Rattle.encoder.proofs.Form.symbol.Goals as goal
 
@@ -20,8 +23,8 @@ small c =
     let inside = c.args.at.inside in (
       mul-le-mul {n₂ = half_turn greatest_h} {m₂ = most_links}
           (omega (arith, c.half_turn-half.ensures, half_turn_most f))
-          (omega (arith, c.links-links.ensures, links_of_le f i inside)),
-      omega (arith, c.linear-linear.ensures, linear_of_le f i inside),
+          (omega (arith, c.links-links.ensures, links_in_le f i inside)),
+      omega (arith, c.linear-linear.ensures, linear_in_le f i inside),
       mul-le-mul {n₂ = half_turn greatest_h} {m₂ = 1} f.lifted
           (omega (arith, c.digit-first.ensures, first_le f i inside)),
     )
@@ -36,9 +39,10 @@ pub overflow_add-result-2 : goal.overflow_add-result-2
 overflow_add-result-2 c = omega (arith, small (goal.at.overflow_add-result-2 c).After-digit-first)
 
 pub returns : goal.returns
-unfolding symbol_of
+unfolding symbol_in symbol_of
 returns c =
     rw (
+      phases_by_two c.args.self.now.shape.h (range_of c.args.self.now).h_least,
       c.half_turn-half.ensures,
       c.phases-q.ensures,
       c.links-links.ensures,
