@@ -68,6 +68,7 @@ pub(super) fn decode<R: Received>(received: &R) -> Found<R::Value>
     ensures { R.right received.now result.message.0 result.value result.tied }
 {
     let shape = received.shape();
+    // Kept: fixed memory, without a heap, of which a slice is lent.
     let mut gains = [0u32; GAINS];
     let gains = &mut gains[..shape.phases() as usize * shape.carriers()];
     fill(received, gains);

@@ -27,6 +27,7 @@ pub(super) struct Gains<'a> {
 }
 
 // What a search writes to: a path's own word, and two tables that take turns. What they hold afterwards is of no use.
+// Kept: fixed memory, without a heap, of which slices are lent.
 #[derive(Drop)]
 struct Areas {
     word: [u8; PLACES],

@@ -24,6 +24,7 @@ pub fn run<R: Read, W: Write>(input: &mut R, out: &mut W) -> io::Result<()> {
 }
 
 // Reads into a text that has room for one byte too many.
+// Kept: fixed memory, without a heap, and an `ArrayVec` of this size asks for more of the stack than there may be.
 fn read<R: Read, W: Write>(input: &mut R, out: &mut W, text: &mut [u8]) -> io::Result<()> {
     let size = text.len();
     let mut room = &mut *text;

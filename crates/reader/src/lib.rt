@@ -59,6 +59,7 @@ impl<'a> Received<'a> {
         ensures { IsTrue result ↔ (word_of self.now.shape.h self.now.shape.m message.0 ≡ self.now.word.now) }
     {
         let n = self.word.len();
+        // Kept: fixed memory, without a heap, of which a slice is lent.
         let mut buffer = [0u8; PLACES];
         let out = &mut buffer[..n];
         encoder::encode(self.shape.h, self.shape.m, message, out).unwrap();
