@@ -17,7 +17,6 @@ pub struct Ends {
 
 // Entry 0 of the spectrum, and entry 0 of what stood before the last stage. Where the transform is refused: 0, and the
 // first entry of that area as it was; 0 where it is empty. The areas are left as the transform leaves them.
-// Kept: a proof by hand walks through these statements, one at a time.
 pub fn look(m: u32, first: &mut [i32], second: &mut [i32]) -> Ends
     ensures { Seen m first.old second.old result first.new second.new }
 {

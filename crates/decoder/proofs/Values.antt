@@ -1,5 +1,5 @@
--- That every soft value is a sixteen-bit number is known of a value once it is read. A table of gains is filled from
--- all of them, so a loop that fills it knows it of all. There are half of them at each of n places.
+-- That every soft value is a sixteen-bit number is known of a value once it is read, and so of all once a table of
+-- gains is filled from them. There are half of them at each of n places. (The decoder's own proof: specs/Found.antt.)
 -- In order: the value of number e of a table, where its symbol lies in the first half turn; all values.
 -- Assumes nothing.
 use Prim.Native.Nat.{ℕ, ◌+◌, ◌*◌, ◌/◌, ◌%◌, ◌<◌}

@@ -1,4 +1,4 @@
-// Soft values: nothing is negated, and a value is widened before anything is added to it.
+// What soft decoding receives: soft values. Nothing is negated, and a value is widened before anything is added to it.
 ghost use Rattle.std.specs.Prelude.{ℕ, ◌+◌, ◌-◌, ◌*◌, ◌≤◌, ◌<◌, ◌≡◌, pos, ◌-ℤ◌, length};
 ghost use Rattle.rules.specs.Shape.{greatest_m, half_turn, carriers};
 ghost use Rattle.rules.specs.Decoding.{Loud};

@@ -1,4 +1,4 @@
-// Symbols of a word.
+// What hard decoding receives: the symbols of a word, each of which gains what it is near to.
 ghost use Rattle.std.specs.Prelude.{ℕ, ◌-◌, ◌*◌, ◌≤◌, ◌<◌, ◌≡◌, length, ⊤};
 ghost use Rattle.rules.specs.Shape.{phases, half_turn, carriers};
 ghost use Rattle.rules.specs.Word.{symbol_at};

@@ -1,7 +1,7 @@
 -- Which tables of gains are searched: specs/Search.antt, accepts. In order: the last of its tests, where the
 -- others are passed; what holds where all are passed, and that no gain is too great there; how long a table is, as code
 -- counts it; what a search answers.
--- Not here: the search through the labels (AllPaths, PathLaws).  Assumes nothing.
+-- Not here: the search through the labels (PathLaws).  Assumes nothing.
 use Prim.Native.Nat.{ℕ, ◌+◌, ◌*◌, ◌^◌, ◌≤◌, ◌<◌}
 use native.Mathlib.Nat.{mul-le-mul}
 use native.Mathlib.Decide.{dec_lt}

@@ -12,8 +12,8 @@ use Rattle.range.specs.Below.{list_below}
 use Rattle.range.proofs.Lists.{length_list_below, list_below_at}
 
 -- the numbers before place n are f's
-abbrev pub Written : (ℕ → ℕ) → List ℕ → ℕ → Type 0
-Written f xs n = (e : ℕ) → e < n → get_or xs e 0 ≡ f e
+abbrev pub Laid : (ℕ → ℕ) → List ℕ → ℕ → Type 0
+Laid f xs n = (e : ℕ) → e < n → get_or xs e 0 ≡ f e
 
 -- how many numbers the piece from place n to place e has
 pub length-part : (n e k : ℕ) (xs : List ℕ) → e ≡ n + k → n + k ≤ length xs → length (take (e - n) (drop n xs)) ≡ k
@@ -23,8 +23,8 @@ length-part n e k xs end room =
 
 -- a piece of k numbers from place n on
 pub written_next : (f : ℕ → ℕ) (xs piece rest : List ℕ) (n k m : ℕ) → n ≤ length xs → length piece ≡ k → m ≡ n + k →
-    Written f xs n → ((i : ℕ) → i < k → get_or piece i 0 ≡ f (n + i)) →
-    Written f (take n xs ++ (piece ++ rest)) m
+    Laid f xs n → ((i : ℕ) → i < k → get_or piece i 0 ≡ f (n + i)) →
+    Laid f (take n xs ++ (piece ++ rest)) m
 written_next f xs piece rest n k m room long end before new e l = at (dec_lt e n)
   where
     front : length (take n xs) ≡ n
@@ -43,7 +43,7 @@ written_next f xs piece rest n k m room long end before new e l = at (dec_lt e n
         ∙ get_or-append piece rest 0 i (omega (arith, inside, long))
         ∙ new i inside ∙ ap f (omega (arith, b))
 
-pub written_all : (f : ℕ → ℕ) (xs : List ℕ) (n : ℕ) → length xs ≡ n → Written f xs n → xs ≡ list_below n f
+pub written_all : (f : ℕ → ℕ) (xs : List ℕ) (n : ℕ) → length xs ≡ n → Laid f xs n → xs ≡ list_below n f
 written_all f xs n long w =
     ext_get_or 0 _ _ (long ∙ sym (length_list_below n f))
     (λ i l. w i (omega (arith, l, long)) ∙ sym (list_below_at n f i 0 (omega (arith, l, long))))

@@ -7,7 +7,7 @@
 --           Climbing d q half w l xs ys  d stages and the last may follow from a table at the front of the area xs,
 --                                 and go to and fro between xs and ys; the labels are counted from l
 --           table_in q half w xs  the table at the front of the area xs
--- Laws: proofs/RunLaws.antt, Climbing.antt, PathLaws.antt, Paths.antt.  Assumes nothing: these are definitions.
+-- Laws: proofs/RunLaws.antt, Climbing.antt, PathLaws.antt.  Assumes nothing: these are definitions.
 use Rattle.std.specs.Prelude.{ℕ, suc, ◌+◌, ◌*◌, ◌^◌, ◌≤◌, ◌<◌, ◌≡◌, List, length, get_or, take}
 use Rattle.rules.specs.Shape.{greatest_m, phases}
 use Rattle.engine.specs.Search.{greatest_decoded, most_labels}

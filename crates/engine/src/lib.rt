@@ -60,7 +60,7 @@ fn small(gains: &[u32]) -> bool
 }
 
 // x modulo n, for an x below 2 n.
-// Kept: a division takes so long beside the addition that it serves that decoding takes up to a third longer.
+// Kept: with `%` decoding takes up to a third longer.
 fn wrap(n: usize, x: usize) -> usize
     requires { x < n + n }
     ensures { result ≡ x % n }

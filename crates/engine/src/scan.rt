@@ -9,6 +9,8 @@ ghost use Rattle.engine.specs.Search.{most_labels};
 use crate::tables::Table;
 use standing::Standing;
 
+// Kept: that a coefficient is one of q, and that labels from the first on fit, tie a number to its table; a type for it
+// would hold what the table holds.
 impl Table<'_> {
     // The standing after all labels of the table, counted from first on.
     pub(super) fn last(&self, first: u64, before: Standing) -> Standing
@@ -50,7 +52,7 @@ impl Table<'_> {
             → pair_at self.now.q self.now.half self.now.w self.now.numbers.now s c i ≤ second }
     {
         for s in 0..self.q {
-            if second < self.pair(s, c).greatest() {
+            if second < self.sums(s, c).greatest() {
                 return true;
             }
         }
@@ -65,7 +67,7 @@ impl Table<'_> {
     {
         let mut st = before;
         for s in 0..self.q {
-            st = st.better(self.pair(s, c).sum(i), first + s as u64);
+            st = st.better(self.sums(s, c).sum(i), first + s as u64);
         }
         st
     }

@@ -49,7 +49,7 @@ impl Table<'_> {
             ≡ climbed_at self.now.q self.now.half self.now.w self.now.numbers.now (t * (self.now.q * self.now.w) + e) }
     {
         for c in 0..self.q {
-            self.pair(t, c).write(&mut to[c * self.w..(c + 1) * self.w]);
+            self.sums(t, c).write(&mut to[c * self.w..(c + 1) * self.w]);
         }
     }
 }

@@ -17,7 +17,7 @@ pub(super) struct Table<'a> {
 
 // Two runs as long as each other, whose sums fit.
 #[derive(Clone, Copy)]
-pub(super) struct Pair<'a> {
+pub(super) struct Sums<'a> {
     x: &'a [u32],
     y: &'a [u32],
     ghost as_long: { length x.now ≡ length y.now },
@@ -35,21 +35,21 @@ impl<'a> Table<'a> {
     }
 
     // The runs whose sums are run t of the next table at coefficient c.
-    pub(super) fn pair(&self, t: usize, c: usize) -> Pair<'a>
+    pub(super) fn sums(&self, t: usize, c: usize) -> Sums<'a>
         requires { (t < self.now.q * self.now.half) × (c < self.now.q) }
         ensures { (length result.x.now ≡ self.now.w) × ((i : ℕ) → i < self.now.w
             → get_or result.x.now i 0 + get_or result.y.now i 0
             ≡ pair_at self.now.q self.now.half self.now.w self.now.numbers.now t c i) }
     {
         let further = wrap(self.q * self.half, t + c * self.half);
-        Pair {
+        Sums {
             x: self.run(2 * t),
             y: self.run(2 * further + 1),
         }
     }
 }
 
-impl Pair<'_> {
+impl Sums<'_> {
     // Sum number i.
     pub(super) fn sum(&self, i: usize) -> u32
         requires { i < length self.now.x.now }

@@ -1,11 +1,12 @@
 -- A refusal can be read back from what it tells, so what it tells determines it.
--- In order: reading back, from one list in the order of the table; its law; refusals that tell the same are equal; a
--- refusal handed on; an answer that is given; answers that tell the same are equal, and of these the ones that give
--- nothing.  Assumes nothing.
-use Prim.Native.Nat.{ℕ, ◌-◌}
+-- In order: reading back, from one list in the order of the table; its law; how much a refusal carries; refusals that
+-- tell the same are equal; a refusal handed on; an answer that is given; answers that tell the same are equal, and of
+-- these the ones that give nothing.  Assumes nothing.
+use Prim.Native.Nat.{ℕ, ◌-◌, ◌≤◌}
 use mathlib.Core.Path.{◌≡◌, refl, sym, ◌∙◌, ap}
 use mathlib.Core.List.{List, [], ◌∷◌}
-use lib.ListN.{get_or}
+use lib.Dec.{lit≤}
+use lib.ListN.{length, get_or}
 use Rattle.std.specs.Prelude.{Result, Ok, Err, IsOk}
 use Rattle.rules.specs.Outcome.{Outcome, gives, refuses}
 use Rattle.rules.proofs.OutcomeLaws.{gives_not_refuses, gives_inj}
@@ -37,6 +38,17 @@ refusal_back_told Message = refl
 refusal_back_told NoWord = refl
 refusal_back_told Octary = refl
 refusal_back_told (Value p) = refl
+
+-- a place, and the word behind it, are all that is carried
+pub carries_two : (r : Refusal) → length (refusal_carries r) ≤ 2
+carries_two Shape = lit≤ tt
+carries_two Length = lit≤ tt
+carries_two (Symbol p) = lit≤ tt
+carries_two (SymbolIn w p) = lit≤ tt
+carries_two Message = lit≤ tt
+carries_two NoWord = lit≤ tt
+carries_two Octary = lit≤ tt
+carries_two (Value p) = lit≤ tt
 
 -- read back from an outcome; what is given is no refusal
 outcome_back : {A : Type 0} → Outcome A → Refusal

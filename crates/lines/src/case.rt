@@ -8,6 +8,8 @@
 //   transform M LIST LIST       the lists given are both areas before
 //   run M LIST LIST
 //   look M LIST LIST
+// transform answers part LIST, refused K or refused 7 at place P; run C, how many entries; look T and O, what the
+// caller sees. The other answers: telling.
 use crate::rest::{Rest, Row};
 use crate::telling::{tell, tell_areas, tell_found, tell_sent};
 use kinds::MessageNumber;

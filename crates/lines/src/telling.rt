@@ -4,10 +4,7 @@
 //   read                message G | refused K | refused 3 at place P
 //   hard                message G distance D tied | message G distance D not tied | refused K | refused 3 at place P
 //   soft                message G correlation C tied | message G correlation C not tied | refused K
-//   transform           part LIST | refused K | refused 7 at place P
-//   run                 C, how many entries
-//   look                T and O, what the caller sees
-// and behind each of the last three ` areas LIST LIST`, both areas after the call.
+// and behind what transform, run and look answer (case) ` areas LIST LIST`, both areas after the call.
 use answers::Found;
 use kinds::Refusal;
 use show::{List, Message, Refused, Tie, Word};

@@ -22,19 +22,19 @@ pub fn read(h: u32, m: u32, word: &[u8]) -> Result<MessageNumber, Refusal>
 {
     refusals::word(h, m, word)?;
     let shape = Shape { h, m };
-    let received = Received { shape, word };
-    received.search().ok_or(Refusal::NoWord)
+    let candidate = Candidate { shape, word };
+    candidate.search().ok_or(Refusal::NoWord)
 }
 
 // Symbols that could be a word: as many as the shape has places, each below 2^h.
 #[derive(Clone, Copy)]
-struct Received<'a> {
+struct Candidate<'a> {
     shape: Shape,
     word: &'a [u8],
     ghost symbols: { Symbols shape.h shape.m word.now },
 }
 
-impl<'a> Received<'a> {
+impl<'a> Candidate<'a> {
     // The message whose word the symbols are: tries the label that they show with each path in use.
     fn search(&self) -> Option<MessageNumber>
         ensures { MatchOption result (message_with self.now.shape.h self.now.shape.m self.now.word.now ≡ none)

@@ -2,8 +2,7 @@
 // answers the refusal that rules, specs/Refusal.antt, has for its call, or that there is none; the call asks it, and
 // then works.
 // Each goes down the tests of its call, the first of them first; a new one is a line between two others. A slice is
-// looked through only where nothing is refused before; the other tests cost nothing, and say what they say of every
-// argument.
+// looked through only where nothing is refused before; each test says what it says of every argument.
 #![tactic(auto)]
 
 mod table;
@@ -66,7 +65,7 @@ pub fn hard(h: u32, m: u32, word: &[u8]) -> Result<(), Refusal>
 pub fn transform(m: u32, first: &[i32], second: &[i32]) -> Result<(), Refusal>
     ensures { judged_told result ≡ transform_refusal m first.now (length second.now) }
 {
-    table::carriers(m)?;
+    table::m_alone(m)?;
     table::areas(first.len(), second.len(), m)?;
     table::values(m, first)
 }

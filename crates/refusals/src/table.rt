@@ -28,7 +28,7 @@ pub(super) fn shape(h: u32, m: u32) -> Result<(), Refusal>
 }
 
 // 1, of the transform: m is outside its range.
-pub(super) fn carriers(m: u32) -> Result<(), Refusal>
+pub(super) fn m_alone(m: u32) -> Result<(), Refusal>
     ensures { judged_told result ≡ refuse 1 (bad_m m) allowed }
 {
     refuse(!shape::in_m(m), Refusal::Shape)
@@ -141,6 +141,7 @@ fn bad_value(m: u32, area: &[i32]) -> Option<usize>
     first_outside(&area[..looked_at(area.len(), m)])
 }
 
+// The same by the library's search: the first symbol that is 2^h or more, the first entry that is out of range.
 fn first_reaching(word: &[u8], h: u32) -> Option<usize>
     ensures { result ≡ position (λ s. leb (phases h) s) word.now }
 {

@@ -1,5 +1,6 @@
 // The ranges of h and m, a shape as a type, and the numbers that it gives, as code.
-// No function here has a requires: each says what it gives for every number that it takes.
+// No function here has a requires: each says what it gives for every number that it takes, and the methods of a shape
+// for every shape, which is in range by its type.
 // The greatest h, the greatest m and the table w stand here alone; their definitions are in rules, specs/Shape.antt.
 #![tactic(auto)]
 

@@ -50,7 +50,7 @@ pub record Demand1 : Type 2 where
       (o : Outcome HardAnswer) → (matched_told r ≡ o) ↔ HardRow h m w o
   pub question_tells : (m : ℕ) (a b : List ℤ) (r : Judged) → judged_told r ≡ transform_refusal m a (length b) →
       (o : Outcome (Unit {0})) → (judged_told r ≡ o) ↔ TransformRow m a b o
-  -- The transform has no enum to answer with: its part is empty exactly where the row of no refusal does not hold.
+  -- The transform has no Result to answer with: its part is empty exactly where the row of no refusal does not hold.
   pub transform_empty : (m : ℕ) (x y : MutBor (List ℤ)) (r : Bor (List ℤ)) → Handed m x y r →
       (r.now ≡ []) ↔ (TransformRow m x.now y.now allowed → ⊥)
   -- A decoder refuses nothing else: where no test of its table holds, a message is found.

@@ -30,8 +30,8 @@ found_told (Some g) f e = sym (ap or_no_word e)
 pub invariant_of-shape : goal.invariant_of-shape
 invariant_of-shape c = record { in_range = (word_taken _ _ c.args.word.now (sym c.in_ok-word.ensures)).shape }
 
-pub invariant_of-received : goal.invariant_of-received
-invariant_of-received c = record { symbols = word_taken _ _ _ (sym c.in_ok-word.ensures) }
+pub invariant_of-candidate : goal.invariant_of-candidate
+invariant_of-candidate c = record { symbols = word_taken _ _ _ (sym c.in_ok-word.ensures) }
 
 pub returns : goal.returns
 unfolding read_outcome

@@ -16,5 +16,5 @@ loop-c-preserved c =
     (omega (arith, room))
     (c.write.auto.to ∙ length-part (at.c * table.w) _ table.w at.to (omega arith) (omega (arith, room)))
     (omega arith) at.invariant
-    (λ i l. c.write.ensures i (rw c.pair.ensures.0 l) ∙ c.pair.ensures.1 i l
+    (λ i l. c.write.ensures i (rw c.sums.ensures.0 l) ∙ c.sums.ensures.1 i l
     ∙ climbed_at_sum table.q table.half table.w table.numbers.now c.args.t at.c i c.loop-c-test.true l)

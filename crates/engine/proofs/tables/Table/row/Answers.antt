@@ -11,4 +11,4 @@ pub loop-s-preserved : goal.loop-s-preserved
 loop-s-preserved c =
     let at = c.loop-s in
     c.better-st.ensures
-    ∙ lead_from_turn _ _ at.s _ _ _ at.st at.invariant (c.sum.ensures ∙ c.pair.ensures.1 c.args.i c.requires.1) refl
+    ∙ lead_from_turn _ _ at.s _ _ _ at.st at.invariant (c.sum.ensures ∙ c.sums.ensures.1 c.args.i c.requires.1) refl

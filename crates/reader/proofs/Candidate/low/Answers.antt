@@ -1,4 +1,4 @@
--- `Received::low` meets its contract: each turn takes one coefficient more, c_1 first.
+-- `Candidate::low` meets its contract: each turn takes one coefficient more, c_1 first.
 -- Assumes nothing.
 use Prim.Native.Nat.{ℕ, ◌+◌, ◌-◌, ◌*◌, ◌^◌, ◌≤◌}
 use native.Mathlib.Omega.{arith}
@@ -9,8 +9,8 @@ use Rattle.shape.proofs.Powers.{power_is}
 use Rattle.places.proofs.Digits.{one_lt}
 use Rattle.reader.specs.Shown.{shown_up_to, low_of}
 use Rattle.reader.proofs.ShownLaws.{shown_lt, shown_of, shown_scaled, shown_up_to_next, first_lt}
-use Rattle.reader.proofs.Received.low.Goals.{After-power-at, After-phases-q, At-loop-k}
-use Rattle.reader.proofs.Received.low.Goals as goal
+use Rattle.reader.proofs.Candidate.low.Goals.{After-power-at, After-phases-q, At-loop-k}
+use Rattle.reader.proofs.Candidate.low.Goals as goal
 
 ranged : (c : After-phases-q) → InRange c.args.self.now.shape.h c.args.self.now.shape.m
 ranged c = in_shape_range _ _ c.args.self.now.symbols.shape

@@ -1,4 +1,4 @@
--- `Received::is_word` meets its contract: encode writes the message's word to the front of the buffer, which has room
+-- `Candidate::is_word` meets its contract: encode writes the message's word to the front of the buffer, which has room
 -- for it, and the two lists are compared.
 -- Assumes nothing.
 use Prim.Native.Nat.{ℕ, ◌≤◌}
@@ -15,8 +15,8 @@ use Rattle.rules.specs.Refusal.{send_refusal}
 use Rattle.rules.proofs.Range.{in_shape_range, carriers_most}
 use Rattle.rules.proofs.RefusalLaws.{send_allowed}
 use Rattle.encoder.proofs.SentLaws.{sent_word, sent_ok}
-use Rattle.reader.proofs.Received.is_word.Goals.{Start, After-encode}
-use Rattle.reader.proofs.Received.is_word.Goals as goal
+use Rattle.reader.proofs.Candidate.is_word.Goals.{Start, After-encode}
+use Rattle.reader.proofs.Candidate.is_word.Goals as goal
 
 -- the buffer as it starts
 abbrev zeros : List ℕ

@@ -1,4 +1,4 @@
--- `Received::search` meets its contract: the word determines its message, so the first path that fits gives the
+-- `Candidate::search` meets its contract: the word determines its message, so the first path that fits gives the
 -- message, and where none fits no message has the word.
 -- Assumes nothing.
 use Prim.Native.Nat.{ℕ, ◌+◌, ◌*◌, ◌<◌}
@@ -13,8 +13,8 @@ use Rattle.rules.proofs.Range.{in_shape_range}
 use Rattle.shape.proofs.Powers.{power_labels}
 use Rattle.reader.specs.Shown.{label_with}
 use Rattle.reader.proofs.ShownLaws.{label_with_of, label_with_small, tried_lt, message_with_some, message_with_none}
-use Rattle.reader.proofs.Received.search.Goals.{After-low-low, After-message_of-message, At-loop-n, In-loop-n}
-use Rattle.reader.proofs.Received.search.Goals as goal
+use Rattle.reader.proofs.Candidate.search.Goals.{After-low-low, After-message_of-message, At-loop-n, In-loop-n}
+use Rattle.reader.proofs.Candidate.search.Goals as goal
 
 -- the label that is tried
 label_is : (c : At-loop-n) → c.loop-n.n * c.power-step.result + c.low-low.result

@@ -1,9 +1,9 @@
--- `engine::tables::Table::pair` meets its contract: run 2 t, and the odd run c symbols further on.
+-- `engine::tables::Table::sums` meets its contract: run 2 t, and the odd run c symbols further on.
 -- Assumes nothing.
 use Rattle.std.proofs.Common.{sym, ◌∙◌, arith}
 use Rattle.totals.specs.Climb.{pair_at}
 use Rattle.engine.proofs.RunLaws.{run_half}
-use Rattle.engine.proofs.tables.Table.pair.Goals as goal
+use Rattle.engine.proofs.tables.Table.sums.Goals as goal
 
 pub invariant_of-result : goal.invariant_of-result
 invariant_of-result c =
