@@ -10,7 +10,7 @@ use lib.Arith.{digits_div, digits_mod, digits_lt}
 use Rattle.rules.specs.Shape.{phases, carriers}
 use Rattle.totals.specs.Gains.{table_of}
 use Rattle.decoder.specs.Seen.{IsSeen}
-use Rattle.engine.proofs.Pieces.{Written, written_all}
+use Rattle.engine.proofs.Pieces.{Laid, written_all}
 
 abbrev pub gain_of : ℕ → (ℕ → ℕ → ℕ) → ℕ → ℕ
 gain_of m f e = f (e % carriers m) (e / carriers m)
@@ -25,6 +25,6 @@ all_seen h m P read i s a b = rw (digits_div s a, digits_mod s a) at (read (s * 
 
 -- a table whose numbers are all written
 pub table_written : (h m : ℕ) (f : ℕ → ℕ → ℕ) (t : List ℕ) → length t ≡ phases h * carriers m →
-    Written (gain_of m f) t (length t) → t ≡ table_of h m f
+    Laid (gain_of m f) t (length t) → t ≡ table_of h m f
 unfolding table_of
 table_written h m f t long w = written_all (gain_of m f) t (phases h * carriers m) long (rw long at w)
