@@ -99,7 +99,7 @@ module _ (h m : ℕ) (ok : in_shape h m ≡ true) (two : h ≤ 2) (st : Standing
   -- every soft value is a sixteen-bit number, once the gains of all symbols are known
   module _ (ys : List ℤ) (long : length ys ≡ half_turn h * carriers m)
       (read : IsSeen (carriers m) (phases h) (small_at h ys)) where
-    small : (k : ℕ) → mag (entry ys k) < raise_by
+    pub small : (k : ℕ) → mag (entry ys k) < raise_by
     small k = at (dec_lt k (length ys))
       where
         half : ℕ
@@ -116,13 +116,10 @@ module _ (h m : ℕ) (ok : in_shape h m ≡ true) (two : h ≤ 2) (st : Standing
             rw e at (read (k / half) (k % half) place (omega (arith, turn, phases_half h one)) turn)
         at (no b) = rw (get_or-eq_default ys (pos 0) {n = k} (omega (arith, b))) (lit< tt)
 
-  module _ (ys : List ℤ) (long : length ys ≡ half_turn h * carriers m)
-      (read : IsSeen (carriers m) (phases h) (small_at h ys))
+  module _ (ys : List ℤ) (small : (k : ℕ) → mag (entry ys k) < raise_by)
       (q : st ≡ searched h m (table_of h m (soft_gain h ys))) where
     heard : Leads h m (2 * raise_by) (soft_gain h ys) st
-    heard =
-        let low = soft_gain_le h ys (small ys long read) in
-        search_leads h m (2 * raise_by) (soft_gain h ys) low ok two (lit≤ tt) st q
+    heard = search_leads h m (2 * raise_by) (soft_gain h ys) (soft_gain_le h ys small) ok two (lit≤ tt) st q
 
     pub soft_best_le : st.best ≤ carriers greatest_m * (2 * raise_by)
     soft_best_le =
@@ -133,7 +130,7 @@ module _ (h m : ℕ) (ok : in_shape h m ≡ true) (two : h ≤ 2) (st : Standing
       value = pos st.best -ℤ pos (carriers m * raise_by);
       tied = tied_of st;
     })
-    soft_found = loud_of_totals h m ys (answer_of h m st) one two (small ys long read) heard.0
+    soft_found = loud_of_totals h m ys (answer_of h m st) one two small heard.0
 
   module _ (w : List ℕ) (inside : (i : ℕ) → i < carriers m → symbol_at w i < phases h)
       (q : st ≡ searched h m (table_of h m (hard_gain h w))) where

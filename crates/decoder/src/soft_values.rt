@@ -5,7 +5,7 @@ ghost use Rattle.rules.specs.Decoding.{Loud};
 ghost use Rattle.totals.specs.Gains.{raise_by, raised, soft_gain};
 ghost use Rattle.engine.specs.Search.{greatest_decoded};
 ghost use Rattle.decoder.specs.Seen.{small_at};
-ghost use Rattle.decoder.specs.Found.{soft_best_le, soft_found};
+ghost use Rattle.decoder.specs.Found.{small, soft_best_le, soft_found};
 
 use crate::received::Received;
 use shape::Shape;
@@ -41,9 +41,11 @@ impl Received for Soft<'_> {
 
     ghost few = { λ r. r.few };
 
-    ghost tells = { λ r led. soft_best_le r.shape.h r.shape.m r.shape.in_range r.few led r.values.now r.long };
+    ghost tells = { λ r led seen. soft_best_le r.shape.h r.shape.m r.shape.in_range r.few led r.values.now
+        (small r.shape.h r.shape.m r.shape.in_range r.few led r.values.now r.long seen) };
 
-    ghost finds = { λ r led. soft_found r.shape.h r.shape.m r.shape.in_range r.few led r.values.now r.long };
+    ghost finds = { λ r led seen. soft_found r.shape.h r.shape.m r.shape.in_range r.few led r.values.now
+        (small r.shape.h r.shape.m r.shape.in_range r.few led r.values.now r.long seen) };
 
     fn shape(&self) -> Shape {
         self.shape

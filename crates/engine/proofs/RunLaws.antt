@@ -25,7 +25,7 @@ module _ {q half w : ℕ} {xs : List ℕ} (p : Runs q half w xs) where
   run_half r o long is i = at (dec_lt i w)
     where
       at : Dec (i < w) → get_or r i 0 * 2 ≤ most_total
-      at (yes l) = rw (is i l) (half_less (o + i))
+      at (yes l) = rw (is i l) (omega (arith, runs_sum (o + i) (o + i)))
       at (no n) = rw (get_or-eq_default r 0 {n = i} (omega (arith, n, long))) (omega arith)
 
 -- the gain of symbol s at place i, as many symbols further on as the word's symbol says
