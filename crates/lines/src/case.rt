@@ -35,69 +35,106 @@ impl Case {
     pub(super) fn of(line: &[u8]) -> Option<Case> {
         let rest = &mut Rest::of(line);
         let case = match rest.name() {
-            b"encode" => Case::Encode(
-                rest.number()?,
-                rest.number()?,
-                rest.message()?,
-                rest.word()?,
-            ),
-            b"partner" => Case::Partner(
-                rest.number()?,
-                rest.number()?,
-                rest.message()?,
-                rest.word()?,
-            ),
-            b"pair" => Case::Pair(rest.number()?, rest.number()?, rest.word()?, rest.word()?),
-            b"read" => Case::Read(rest.number()?, rest.number()?, rest.word()?),
-            b"hard" => Case::Hard(rest.number()?, rest.number()?, rest.word()?),
-            b"soft" => Case::Soft(rest.number()?, rest.number()?, rest.list()?),
-            b"transform" => Case::Transform(rest.number()?, rest.list()?, rest.list()?),
-            b"run" => Case::Run(rest.number()?, rest.list()?, rest.list()?),
-            b"look" => Case::Look(rest.number()?, rest.list()?, rest.list()?),
-            _ => return None,
+            b"encode" => Case::encode(rest),
+            b"partner" => Case::partner(rest),
+            b"pair" => Case::pair(rest),
+            b"read" => Case::read(rest),
+            b"hard" => Case::hard(rest),
+            b"soft" => Case::soft(rest),
+            b"transform" => Case::transform(rest),
+            b"run" => Case::run(rest),
+            b"look" => Case::look(rest),
+            _ => None,
         };
-        rest.is_empty().then_some(case)
+        if rest.is_empty() { case } else { None }
+    }
+
+    // Each kind is a function of its own, so that a line clears the rows of its own kind alone.
+    fn encode(rest: &mut Rest) -> Option<Case> {
+        Some(Case::Encode(
+            rest.number()?,
+            rest.number()?,
+            rest.message()?,
+            rest.word()?,
+        ))
+    }
+
+    fn partner(rest: &mut Rest) -> Option<Case> {
+        Some(Case::Partner(
+            rest.number()?,
+            rest.number()?,
+            rest.message()?,
+            rest.word()?,
+        ))
+    }
+
+    fn pair(rest: &mut Rest) -> Option<Case> {
+        Some(Case::Pair(rest.number()?, rest.number()?, rest.word()?, rest.word()?))
+    }
+
+    fn read(rest: &mut Rest) -> Option<Case> {
+        Some(Case::Read(rest.number()?, rest.number()?, rest.word()?))
+    }
+
+    fn hard(rest: &mut Rest) -> Option<Case> {
+        Some(Case::Hard(rest.number()?, rest.number()?, rest.word()?))
+    }
+
+    fn soft(rest: &mut Rest) -> Option<Case> {
+        Some(Case::Soft(rest.number()?, rest.number()?, rest.list()?))
+    }
+
+    fn transform(rest: &mut Rest) -> Option<Case> {
+        Some(Case::Transform(rest.number()?, rest.list()?, rest.list()?))
+    }
+
+    fn run(rest: &mut Rest) -> Option<Case> {
+        Some(Case::Run(rest.number()?, rest.list()?, rest.list()?))
+    }
+
+    fn look(rest: &mut Rest) -> Option<Case> {
+        Some(Case::Look(rest.number()?, rest.list()?, rest.list()?))
     }
 
     // Makes the call, and writes its answer.
-    pub(super) fn answer<W: Write>(self, out: &mut W) -> io::Result<()> {
+    pub(super) fn answer<W: Write>(&mut self, out: &mut W) -> io::Result<()> {
         match self {
-            Case::Encode(h, m, message, mut word) => {
-                let sent = encoder::encode(h, m, message, &mut word);
-                tell_sent(out, sent, &word)
+            Case::Encode(h, m, message, word) => {
+                let sent = encoder::encode(*h, *m, *message, word);
+                tell_sent(out, sent, word)
             }
-            Case::Partner(h, m, message, mut word) => {
-                let sent = encoder::partner(h, m, message, &mut word);
-                tell_sent(out, sent, &word)
+            Case::Partner(h, m, message, word) => {
+                let sent = encoder::partner(*h, *m, *message, word);
+                tell_sent(out, sent, word)
             }
             Case::Pair(h, m, first, second) => {
-                let checked = pair::check(h, m, &first, &second);
+                let checked = pair::check(*h, *m, first, second);
                 tell(out, checked.map(|pair| if pair { "yes" } else { "no" }))
             }
-            Case::Read(h, m, word) => tell(out, reader::read(h, m, &word).map(Message)),
-            Case::Hard(h, m, word) => tell_found(out, "distance", decoder::hard(h, m, &word)),
+            Case::Read(h, m, word) => tell(out, reader::read(*h, *m, word).map(Message)),
+            Case::Hard(h, m, word) => tell_found(out, " distance ", decoder::hard(*h, *m, word)),
             Case::Soft(h, m, values) => tell_found(
                 out,
-                "correlation",
-                decoder::soft(h, m, &values),
+                " correlation ",
+                decoder::soft(*h, *m, values),
             ),
-            Case::Transform(m, mut first, mut second) => {
-                let judged = refusals::transform(m, &first, &second);
-                let part = List(transform::transform(m, &mut first, &mut second));
+            Case::Transform(m, first, second) => {
+                let judged = refusals::transform(*m, first, second);
+                let part = List(transform::transform(*m, first, second));
                 match judged {
                     Ok(()) => write!(out, "part [{part}]")?,
                     Err(why) => write!(out, "{}", Refused(why))?,
                 }
-                tell_areas(out, &first, &second)
+                tell_areas(out, first, second)
             }
-            Case::Run(m, mut first, mut second) => {
-                write!(out, "{}", transform::run(m, &mut first, &mut second))?;
-                tell_areas(out, &first, &second)
+            Case::Run(m, first, second) => {
+                write!(out, "{}", transform::run(*m, first, second))?;
+                tell_areas(out, first, second)
             }
-            Case::Look(m, mut first, mut second) => {
-                let seen = caller::look(m, &mut first, &mut second);
+            Case::Look(m, first, second) => {
+                let seen = caller::look(*m, first, second);
                 write!(out, "{} and {}", seen.total, seen.kept)?;
-                tell_areas(out, &first, &second)
+                tell_areas(out, first, second)
             }
         }
     }

@@ -4,6 +4,8 @@
 // it answers. tests/cases.md says the form of a line and of its answer.
 #![tactic(auto)]
 
+ghost use Rattle.std.specs.Prelude.{◌≤◌, length, IfOk};
+
 use case::Case;
 use std::io;
 use std::io::{Read, Write};
@@ -26,14 +28,29 @@ pub fn run<R: Read, W: Write>(input: &mut R, out: &mut W) -> io::Result<()> {
 // Reads into a text that has room for one byte too many.
 // Kept: fixed memory, without a heap, and an `ArrayVec` of this size asks for more of the stack than there may be.
 fn read<R: Read, W: Write>(input: &mut R, out: &mut W, text: &mut [u8]) -> io::Result<()> {
-    let size = text.len();
-    let mut room = &mut *text;
-    let count = io::copy(&mut input.take(size as u64), &mut room)? as usize;
-    if count < size {
+    let count = read_full(input, text)?;
+    if count < text.len() {
         answers(out, &text[..count])
     } else {
         writeln!(out, "too long")
     }
+}
+
+// Reads until the text is full or the input ends, and answers how many bytes it put at the front of the text.
+// Kept: `io::copy` reads in pieces of its own, so that it loses the end of a longer packet, and makes a read again that
+// was interrupted.
+fn read_full<R: Read>(input: &mut R, text: &mut [u8]) -> io::Result<usize>
+    ensures { IfOk result (λ n. n ≤ length text.new) }
+{
+    let mut done = 0;
+    while done < text.len() {
+        let count = input.read(&mut text[done..])?;
+        if count == 0 {
+            break;
+        }
+        done += count;
+    }
+    Ok(done)
 }
 
 // Answers each line of a text. A line ends at its newline, or with the text.
@@ -50,9 +67,15 @@ fn answer<W: Write>(out: &mut W, line: &[u8]) -> io::Result<()> {
         if line.starts_with(b"#") {
             return out.write_all(line);
         }
-        if let Some(case) = Case::of(line) {
-            return case.answer(out);
-        }
+        return call(out, line);
     }
     write!(out, "not a case")
+}
+
+// Makes the call that a line is. Apart from the tests above, so that a line that stops there clears no case.
+fn call<W: Write>(out: &mut W, line: &[u8]) -> io::Result<()> {
+    match Case::of(line) {
+        Some(mut case) => case.answer(out),
+        None => write!(out, "not a case"),
+    }
 }

@@ -7,7 +7,7 @@
 // and behind what transform, run and look answer (case) ` areas LIST LIST`, both areas after the call.
 use answers::Found;
 use kinds::Refusal;
-use show::{List, Message, Refused, Tie, Word};
+use show::{List, Message, Refused, Word};
 use std::io::Write;
 use std::{fmt, io};
 
@@ -32,7 +32,7 @@ pub(super) fn tell_sent<W: Write>(
     write!(out, " [{}]", Word(word))
 }
 
-// What a decoder answers, with the name of its value.
+// What a decoder answers, with the name of its value between spaces: each piece of an answer is a write of its own.
 pub(super) fn tell_found<W: Write>(
     out: &mut W,
     name: &str,
@@ -41,10 +41,10 @@ pub(super) fn tell_found<W: Write>(
     match answer {
         Ok(found) => write!(
             out,
-            "{} {name} {} {}",
+            "{}{name}{}{}",
             Message(found.message),
             found.value,
-            Tie(found.tied)
+            if found.tied { " tied" } else { " not tied" }
         ),
         Err(why) => write!(out, "{}", Refused(why)),
     }
