@@ -35,23 +35,29 @@ impl Case {
     pub(super) fn of(line: &[u8]) -> Option<Case> {
         let rest = &mut Rest::of(line);
         let case = match rest.name() {
-            b"encode" => Case::encode(rest),
-            b"partner" => Case::partner(rest),
-            b"pair" => Case::pair(rest),
-            b"read" => Case::read(rest),
-            b"hard" => Case::hard(rest),
-            b"soft" => Case::soft(rest),
-            b"transform" => Case::transform(rest),
-            b"run" => Case::run(rest),
-            b"look" => Case::look(rest),
+            b"encode" => Case::sent(rest, Case::Encode),
+            b"partner" => Case::sent(rest, Case::Partner),
+            b"pair" => Case::words(rest, Case::Pair),
+            b"read" => Case::word(rest, Case::Read),
+            b"hard" => Case::word(rest, Case::Hard),
+            b"soft" => Case::values(rest, Case::Soft),
+            b"transform" => Case::areas(rest, Case::Transform),
+            b"run" => Case::areas(rest, Case::Run),
+            b"look" => Case::areas(rest, Case::Look),
             _ => None,
         };
         if rest.is_empty() { case } else { None }
     }
 
-    // Each kind is a function of its own, so that a line clears the rows of its own kind alone.
-    fn encode(rest: &mut Rest) -> Option<Case> {
-        Some(Case::Encode(
+    // What stands behind a name, in its forms. Each is a function of its own, so that a line clears the rows of its own
+    // form alone.
+    fn sent<K: FnOnce(u32, u32, MessageNumber, Row<u8>) -> Case>(
+        rest: &mut Rest,
+        kind: K,
+    ) -> Option<Case>
+        requires { K.IsAlwaysCallable kind }
+    {
+        Some(kind(
             rest.number()?,
             rest.number()?,
             rest.message()?,
@@ -59,41 +65,31 @@ impl Case {
         ))
     }
 
-    fn partner(rest: &mut Rest) -> Option<Case> {
-        Some(Case::Partner(
-            rest.number()?,
-            rest.number()?,
-            rest.message()?,
-            rest.word()?,
-        ))
+    fn words<K: FnOnce(u32, u32, Row<u8>, Row<u8>) -> Case>(
+        rest: &mut Rest,
+        kind: K,
+    ) -> Option<Case>
+        requires { K.IsAlwaysCallable kind }
+    {
+        Some(kind(rest.number()?, rest.number()?, rest.word()?, rest.word()?))
     }
 
-    fn pair(rest: &mut Rest) -> Option<Case> {
-        Some(Case::Pair(rest.number()?, rest.number()?, rest.word()?, rest.word()?))
+    fn word<K: FnOnce(u32, u32, Row<u8>) -> Case>(rest: &mut Rest, kind: K) -> Option<Case>
+        requires { K.IsAlwaysCallable kind }
+    {
+        Some(kind(rest.number()?, rest.number()?, rest.word()?))
     }
 
-    fn read(rest: &mut Rest) -> Option<Case> {
-        Some(Case::Read(rest.number()?, rest.number()?, rest.word()?))
+    fn values<K: FnOnce(u32, u32, Row<i16>) -> Case>(rest: &mut Rest, kind: K) -> Option<Case>
+        requires { K.IsAlwaysCallable kind }
+    {
+        Some(kind(rest.number()?, rest.number()?, rest.list()?))
     }
 
-    fn hard(rest: &mut Rest) -> Option<Case> {
-        Some(Case::Hard(rest.number()?, rest.number()?, rest.word()?))
-    }
-
-    fn soft(rest: &mut Rest) -> Option<Case> {
-        Some(Case::Soft(rest.number()?, rest.number()?, rest.list()?))
-    }
-
-    fn transform(rest: &mut Rest) -> Option<Case> {
-        Some(Case::Transform(rest.number()?, rest.list()?, rest.list()?))
-    }
-
-    fn run(rest: &mut Rest) -> Option<Case> {
-        Some(Case::Run(rest.number()?, rest.list()?, rest.list()?))
-    }
-
-    fn look(rest: &mut Rest) -> Option<Case> {
-        Some(Case::Look(rest.number()?, rest.list()?, rest.list()?))
+    fn areas<K: FnOnce(u32, Row<i32>, Row<i32>) -> Case>(rest: &mut Rest, kind: K) -> Option<Case>
+        requires { K.IsAlwaysCallable kind }
+    {
+        Some(kind(rest.number()?, rest.list()?, rest.list()?))
     }
 
     // Makes the call, and writes its answer.
