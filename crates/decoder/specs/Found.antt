@@ -91,12 +91,11 @@ module _ (h m b : ℕ) (f : ℕ → ℕ → ℕ) (low : (i s : ℕ) → f i s �
         omega (arith, best.attained, total_le st.label),
       )
 
--- what is answered is what the search gave
-module _ (h m : ℕ) (ok : in_shape h m ≡ true) (two : h ≤ 2) (st : Standing) where
+-- every soft value is a sixteen-bit number, once the gains of all symbols are known
+module _ (h m : ℕ) (ok : in_shape h m ≡ true) where
   one : 1 ≤ h
   one = (in_shape_range h m ok).h_least
 
-  -- every soft value is a sixteen-bit number, once the gains of all symbols are known
   module _ (ys : List ℤ) (long : length ys ≡ half_turn h * carriers m)
       (read : IsSeen (carriers m) (phases h) (small_at h ys)) where
     pub small : (k : ℕ) → mag (entry ys k) < raise_by
@@ -116,6 +115,8 @@ module _ (h m : ℕ) (ok : in_shape h m ≡ true) (two : h ≤ 2) (st : Standing
             rw e at (read (k / half) (k % half) place (omega (arith, turn, phases_half h one)) turn)
         at (no b) = rw (get_or-eq_default ys (pos 0) {n = k} (omega (arith, b))) (lit< tt)
 
+-- what is answered is what the search gave
+module _ (h m : ℕ) (ok : in_shape h m ≡ true) (two : h ≤ 2) (st : Standing) where
   module _ (ys : List ℤ) (small : (k : ℕ) → mag (entry ys k) < raise_by)
       (q : st ≡ searched h m (table_of h m (soft_gain h ys))) where
     heard : Leads h m (2 * raise_by) (soft_gain h ys) st
@@ -130,7 +131,7 @@ module _ (h m : ℕ) (ok : in_shape h m ≡ true) (two : h ≤ 2) (st : Standing
       value = pos st.best -ℤ pos (carriers m * raise_by);
       tied = tied_of st;
     })
-    soft_found = loud_of_totals h m ys (answer_of h m st) one two small heard.0
+    soft_found = loud_of_totals h m ys (answer_of h m st) (one h m ok) two small heard.0
 
   module _ (w : List ℕ) (inside : (i : ℕ) → i < carriers m → symbol_at w i < phases h)
       (q : st ≡ searched h m (table_of h m (hard_gain h w))) where
@@ -148,4 +149,4 @@ module _ (h m : ℕ) (ok : in_shape h m ≡ true) (two : h ≤ 2) (st : Standing
       value = carriers m * half_turn h - st.best;
       tied = tied_of st;
     })
-    hard_found = near_of_totals h m w (answer_of h m st) one inside matched.0
+    hard_found = near_of_totals h m w (answer_of h m st) (one h m ok) inside matched.0

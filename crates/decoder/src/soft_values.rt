@@ -42,10 +42,10 @@ impl Received for Soft<'_> {
     ghost few = { λ r. r.few };
 
     ghost tells = { λ r led seen. soft_best_le r.shape.h r.shape.m r.shape.in_range r.few led r.values.now
-        (small r.shape.h r.shape.m r.shape.in_range r.few led r.values.now r.long seen) };
+        (small r.shape.h r.shape.m r.shape.in_range r.values.now r.long seen) };
 
     ghost finds = { λ r led seen. soft_found r.shape.h r.shape.m r.shape.in_range r.few led r.values.now
-        (small r.shape.h r.shape.m r.shape.in_range r.few led r.values.now r.long seen) };
+        (small r.shape.h r.shape.m r.shape.in_range r.values.now r.long seen) };
 
     fn shape(&self) -> Shape {
         self.shape

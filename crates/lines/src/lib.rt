@@ -67,15 +67,15 @@ fn answer<W: Write>(out: &mut W, line: &[u8]) -> io::Result<()> {
         if line.starts_with(b"#") {
             return out.write_all(line);
         }
-        return call(out, line);
+        if let Some(answered) = call(out, line) {
+            return answered;
+        }
     }
     write!(out, "not a case")
 }
 
-// Makes the call that a line is. Apart from the tests above, so that a line that stops there clears no case.
-fn call<W: Write>(out: &mut W, line: &[u8]) -> io::Result<()> {
-    match Case::of(line) {
-        Some(mut case) => case.answer(out),
-        None => write!(out, "not a case"),
-    }
+// Makes the call that a line is, if it is one. A function of its own, so that a line that stops before it clears no case.
+fn call<W: Write>(out: &mut W, line: &[u8]) -> Option<io::Result<()>> {
+    let mut case = Case::of(line)?;
+    Some(case.answer(out))
 }

@@ -14,6 +14,9 @@ use std::str::FromStr;
 // Most symbols of a word, and most numbers of a list: twice the longest slice that a call takes.
 pub const MOST: usize = 4 * PLACES;
 
+// The length of `transform`.
+const LONGEST_NAME: usize = 9;
+
 // Up to so many symbols or numbers.
 pub type Row<T> = ArrayVec<T, MOST>;
 
@@ -33,8 +36,9 @@ impl<'a> Rest<'a> {
         self.bytes.is_empty()
     }
 
+    // No more is looked at than the longest name and its space.
     pub(super) fn name(&mut self) -> &'a [u8] {
-        self.until(|&byte| byte == b' ')
+        self.until(LONGEST_NAME + 1, |&byte| byte == b' ')
     }
 
     pub(super) fn number<T: FromStr<Err: Drop>>(&mut self) -> Option<T> {
@@ -73,12 +77,13 @@ impl<'a> Rest<'a> {
         Some(())
     }
 
-    // What stands before the first byte that ends it, or all that is left.
-    fn until<E: FnMut(&u8) -> bool>(&mut self, ends: E) -> &'a [u8]
+    // What stands before the first byte that ends it, or else all that is looked at: the most, or what is left.
+    fn until<E: FnMut(&u8) -> bool>(&mut self, most: usize, ends: E) -> &'a [u8]
         requires { E.IsAlwaysCallable ends }
     {
         let all = self.bytes;
-        let end = all.iter().position(ends).unwrap_or(all.len());
+        let most = most.min(all.len());
+        let end = all[..most].iter().position(ends).unwrap_or(most);
         let (front, bytes) = all.split_at(end);
         self.bytes = bytes;
         front
@@ -86,7 +91,7 @@ impl<'a> Rest<'a> {
 
     // One or more digits.
     fn digits<T: FromStr<Err: Drop>>(&mut self) -> Option<T> {
-        let digits = self.until(|byte| !byte.is_ascii_digit());
+        let digits = self.until(usize::MAX, |byte| !byte.is_ascii_digit());
         str::from_utf8(digits).ok()?.parse().ok()
     }
 
