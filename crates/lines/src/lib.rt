@@ -74,7 +74,8 @@ fn answer<W: Write>(out: &mut W, line: &[u8]) -> io::Result<()> {
     write!(out, "not a case")
 }
 
-// Makes the call that a line is, if it is one. A function of its own, so that a line that stops before it clears no case.
+// Makes the call that a line is, if it is one. A function of its own, so that a line that stops before it clears no
+// case.
 fn call<W: Write>(out: &mut W, line: &[u8]) -> Option<io::Result<()>> {
     let mut case = Case::of(line)?;
     Some(case.answer(out))
