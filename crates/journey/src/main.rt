@@ -94,14 +94,14 @@ fn tell_reading<W: Write>(out: &mut W, word: &[u8]) -> io::Result<()> {
 // Decodes symbols.
 fn tell_nearest<W: Write>(out: &mut W, word: &[u8]) -> io::Result<()> {
     write!(out, "hard decoding: ")?;
-    tell_found(out, "at distance", decoder::hard(H, M, word))
+    tell_found(out, " at distance ", decoder::hard(H, M, word))
 }
 
 // Decodes soft values.
 // Kept: it and `tell_nearest` say a sentence each, over one `tell_found`.
 fn tell_loudest<W: Write>(out: &mut W, y: &[i16]) -> io::Result<()> {
     write!(out, "soft decoding: ")?;
-    tell_found(out, "with correlation", decoder::soft(H, M, y))
+    tell_found(out, " with correlation ", decoder::soft(H, M, y))
 }
 
 // What a call answers, to the end of the line.
@@ -115,7 +115,7 @@ fn tell<W: Write>(
     }
 }
 
-// What a decoder answers, with the name of its value.
+// What a decoder answers, with the name of its value between spaces.
 fn tell_found<W: Write>(
     out: &mut W,
     name: &str,
@@ -124,7 +124,7 @@ fn tell_found<W: Write>(
     match answer {
         Ok(found) => writeln!(
             out,
-            "{} {name} {}, {}",
+            "{}{name}{},{}",
             Message(found.message),
             found.value,
             Tie(found.tied)

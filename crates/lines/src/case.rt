@@ -49,8 +49,8 @@ impl Case {
         if rest.is_empty() { case } else { None }
     }
 
-    // What stands behind a name, in its forms. Each is a function of its own, so that a line clears the rows of its own
-    // form alone.
+    // What stands behind a name, in its forms; `kind` makes the case of it. Each is a function of its own, so that a
+    // line clears the rows of its own form alone.
     fn sent<K: FnOnce(u32, u32, MessageNumber, Row<u8>) -> Case>(
         rest: &mut Rest,
         kind: K,

@@ -14,7 +14,7 @@ use std::str::FromStr;
 // Most symbols of a word, and most numbers of a list: twice the longest slice that a call takes.
 pub const MOST: usize = 4 * PLACES;
 
-// The length of `transform`.
+// The length of the longest name, `transform`.
 const LONGEST_NAME: usize = 9;
 
 // Up to so many symbols or numbers.

@@ -7,7 +7,7 @@
 // and behind what transform, run and look answer (case) ` areas LIST LIST`, both areas after the call.
 use answers::Found;
 use kinds::Refusal;
-use show::{List, Message, Refused, Word};
+use show::{List, Message, Refused, Tie, Word};
 use std::io::Write;
 use std::{fmt, io};
 
@@ -44,7 +44,7 @@ pub(super) fn tell_found<W: Write>(
             "{}{name}{}{}",
             Message(found.message),
             found.value,
-            if found.tied { " tied" } else { " not tied" }
+            Tie(found.tied)
         ),
         Err(why) => write!(out, "{}", Refused(why)),
     }

@@ -16,13 +16,13 @@ impl fmt::Display for Message {
     }
 }
 
-// Whether another word is as good as the one found.
+// Whether another word is as good as the one found, with the space before it.
 #[derive(Clone, Copy)]
 pub struct Tie(pub bool);
 
 impl fmt::Display for Tie {
     fn fmt<W: fmt::Write>(&self, f: &mut fmt::Formatter<W>) -> fmt::Result {
-        f.write_str(if self.0 { "tied" } else { "not tied" })
+        f.write_str(if self.0 { " tied" } else { " not tied" })
     }
 }
 
